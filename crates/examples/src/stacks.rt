@@ -1,0 +1,122 @@
+// Layers on layers: a window on a permutation on a window, on records and on bytes, with both kinds.
+use blocks::block_bank::BlockBank;
+use blocks::block_bank::BlockBankRead;
+use blocks::block_bank::BlockBankWrite;
+use kinds::batch::Batch;
+use kinds::batch::BatchDebug;
+use kinds::batch::BatchKind;
+use kinds::batch::BatchPartialEq;
+use kinds::choice::Choice;
+use kinds::choice::ChoiceDebug;
+use kinds::choice::ChoicePartialEq;
+use kinds::choice::methods::ChoiceKind;
+use layers::permutation::Permutation;
+use layers::permuted::Permuted;
+use layers::permuted::PermutedRead;
+use layers::permuted::PermutedWrite;
+use layers::window::Window;
+use layers::window::WindowRead;
+use layers::window::WindowWrite;
+use registers::bank::ReadBank;
+use registers::bank::WriteBank;
+use registers::decision::look_up;
+use registers::record::Fields;
+use registers::record::Record;
+use registers::record_bank::RecordBank;
+use registers::record_bank::RecordBankRead;
+use registers::record_bank::RecordBankWrite;
+use registers::refusal::Refusal;
+use registers::refusal::RefusalDebug;
+use registers::refusal::RefusalPartialEq;
+use registers::tag::Tag;
+use std::test::*;
+
+// Writes register 2 of the bank and looks it up there; 3 is one too many.
+fn settle_in_second<B: WriteBank>(bank: &mut B, value: B::Value) -> Result<(), Fail> {
+    let fields = Fields {
+        round: 1,
+        accepted: 1,
+        tag: Tag::Dec,
+        value: Some(value),
+    };
+    check_eq(bank.size(), 2)?;
+    check_eq(bank.write(3, &fields), Err(Refusal::NoRegister))?;
+    check_eq(bank.write(2, &fields), Ok(()))?;
+    check(bank.read(2).is_ok())
+}
+
+#[test]
+fn a_window_on_a_permutation_on_a_window_of_records() -> Result<(), Fail> {
+    let mut records = [Record::<Batch>::blank(); 5];
+    let order = Permutation::new(&[2, 3, 1]);
+    let inner = Window::new(RecordBank::new(&mut records), 2, 3);
+    let mut stack = Window::new(Permuted::new(inner, &order), 2, 2);
+    settle_in_second(&mut stack, Batch::new(5))?;
+    check_eq(look_up(&stack), Ok(Some(Batch::new(5))))?;
+    stack.point(1, 2);
+    check_eq(look_up(&stack), Ok(None)).note("pointed away from the decision")?;
+    stack.point(3, 2);
+    check_eq(stack.size(), 0).note("pointed past the end")?;
+    check_eq(records[1].round(), 1).note("place 3 names register 1 of the inner window")?;
+    check_eq(records[0].round() + records[2].round() + records[3].round() + records[4].round(), 0)
+}
+
+#[test]
+fn the_same_stack_on_bytes_with_choices() -> Result<(), Fail> {
+    let mut bytes = [0x4Eu8; 100];
+    let order = Permutation::new(&[3, 1, 2]);
+    let inner = Window::new(BlockBank::<Choice>::new(&mut bytes), 3, 3);
+    let mut stack = Window::new(Permuted::new(inner, &order), 1, 2);
+    let Some(choice) = Choice::new(7, 2) else {
+        return Err(Fail::new("unlawful"));
+    };
+    settle_in_second(&mut stack, choice)?;
+    check_eq(look_up(&stack), Err(Refusal::Unreadable))?;
+    let block = [0x44, 0, 0, 0, 0, 0, 0, 1, 0, 0, 0, 1, 0x43, 7, 0, 2, 0, 0, 0, 0];
+    check(&bytes[40..60] == &block)?;
+    for i in 0..100 {
+        check(bytes[i] == 0x4E || (40 <= i && i < 60)).note("another byte was touched")?;
+    }
+    Ok(())
+}
+
+// The size of the first `size` of nine registers in the order of the list.
+fn permuted_size(list: &[usize], size: usize) -> usize {
+    let mut records = [Record::<Batch>::blank(); 9];
+    let order = Permutation::new(list);
+    Permuted::new(Window::new(RecordBank::new(&mut records), 1, size), &order).size()
+}
+
+#[test]
+fn only_permutations_of_the_bank_below_have_registers() -> Result<(), Fail> {
+    check_eq(permuted_size(&[2, 1], 2), 2)?;
+    check_eq(permuted_size(&[8, 7, 6, 5, 4, 3, 2, 1], 8), 8)?;
+    check_eq(permuted_size(&[1, 1], 2), 0).note("names one twice")?;
+    check_eq(permuted_size(&[0, 1], 2), 0).note("names none that is there")?;
+    check_eq(permuted_size(&[2, 3], 2), 0).note("leaves one out")?;
+    check_eq(permuted_size(&[2, 1], 3), 0).note("a larger bank")?;
+    check_eq(permuted_size(&[2, 1], 1), 0).note("a smaller bank")?;
+    check_eq(permuted_size(&[], 0), 0).note("no bank")?;
+    check_eq(permuted_size(&[9, 8, 7, 6, 5, 4, 3, 2, 1], 9), 0).note("more than eight")
+}
+
+#[test]
+fn windows_fit_to_the_last_register() -> Result<(), Fail> {
+    let mut records = [Record::<Batch>::blank(); 16];
+    let mut window = Window::new(RecordBank::new(&mut records), 9, 8);
+    check_eq(window.size(), 8)?;
+    for (first, count) in [
+        (10usize, 8usize),
+        (0, 8),
+        (9, 0),
+        (17, 1),
+        (9, 9),
+        (18446744073709551615, 2),
+        (2, 18446744073709551615),
+    ] {
+        window.point(first, count);
+        check_eq(window.size(), 0)?;
+    }
+    window.point(1, 16);
+    check_eq(window.size(), 16)
+}

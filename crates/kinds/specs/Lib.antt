@@ -1,0 +1,6 @@
+-- What the contracts cite.
+pub mod Words
+pub mod Decimals
+pub mod BatchForms
+pub mod Regions
+pub mod ChoiceForms

@@ -1,0 +1,5 @@
+pub mod Tests
+pub mod Views
+pub mod WindowViews
+pub mod Naming
+pub mod PermutedViews

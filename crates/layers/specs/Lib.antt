@@ -1,0 +1,4 @@
+pub mod Below
+pub mod Windows
+pub mod Permutations
+pub mod Permuting

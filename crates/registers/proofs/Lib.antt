@@ -1,0 +1,4 @@
+pub mod Making
+pub mod Answering
+pub mod RecordBanks
+pub mod Looking

@@ -1,0 +1,7 @@
+pub mod Tags
+pub mod Refusals
+pub mod Lawful
+pub mod Records
+pub mod Cells
+pub mod RecordCells
+pub mod Decision
