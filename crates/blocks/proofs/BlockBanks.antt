@@ -44,10 +44,13 @@ module _ {V : Type 0} (ofImage : List ℕ → Option V) (bs : List ℕ) where
     where
       long : length (block-cells ofImage new) ≡ block-count (length bs)
       long = blocks-length ofImage new ∙ ap block-count same
+
       lengths : length (block-cells ofImage new) ≡ length (set (block-cells ofImage bs) i x)
       lengths = long ∙ sym (length-set (block-cells ofImage bs) i x ∙ blocks-length ofImage bs)
+
       at-new : (k : ℕ) → k < block-count (length bs) → getD (block-cells ofImage new) k None ≡ decoded ofImage (block-at new k)
       at-new k p = blocks-at ofImage new k (rw same p)
+
       each : (k : ℕ) → k < block-count (length bs) → ((k ≡ i) ⊎ (k ≡ i → ⊥)) → getD (block-cells ofImage new) k None ≡ getD (set (block-cells ofImage bs) i x) k None
       each k p (inl e) =
           let inner : i < length (block-cells ofImage bs) = omega (arith, h, blocks-length ofImage bs) in

@@ -51,10 +51,10 @@ module _ {V : Type 0} (ofImage : List ℕ → Option V) where
         let limits = lawful x in
         let whole : is-laid b ≡ true = is-laid-by b (omega (arith, sized)) refl refl refl in
         cond-true _ _ _ whole
-          ∙ ap (λ r. if-tagged ofImage r (word-at b 8) v (tag-of (tag-byte (x .tag)))) (word-of-bytes (x .round) (omega (arith, limits .limited)))
-          ∙ ap (λ a. if-tagged ofImage (x .round) a v (tag-of (tag-byte (x .tag)))) (word-of-bytes (x .accepted) (omega (arith, limits .limited, limits .ordered)))
-          ∙ ap (if-tagged ofImage (x .round) (x .accepted) v) (tag-back (x .tag))
-          ∙ by-tag (x .round) (x .accepted) (x .tag) (x .value) (x .lawful) back
+        ∙ ap (λ r. if-tagged ofImage r (word-at b 8) v (tag-of (tag-byte (x .tag)))) (word-of-bytes (x .round) (omega (arith, limits .limited)))
+        ∙ ap (λ a. if-tagged ofImage (x .round) a v (tag-of (tag-byte (x .tag)))) (word-of-bytes (x .accepted) (omega (arith, limits .limited, limits .ordered)))
+        ∙ ap (if-tagged ofImage (x .round) (x .accepted) v) (tag-back (x .tag))
+        ∙ by-tag (x .round) (x .accepted) (x .tag) (x .value) (x .lawful) back
 
   -- the record that a tagged block reads as has the parts of that block
   pub record Parts (r a : ℕ) (t : Tag) (x : Record V) : Type 0 where
@@ -93,10 +93,10 @@ module _ {V : Type 0} (ofImage : List ℕ → Option V) where
     pub decodes : r ≡ word-at b 4 → a ≡ word-at b 8 → image ≡ drop 12 b → with-tag ofImage r a image t ≡ decoded ofImage b
     decodes first second third =
         ap (λ y. with-tag ofImage y a image t) first
-          ∙ ap (λ y. with-tag ofImage (word-at b 4) y image t) second
-          ∙ ap (λ y. with-tag ofImage (word-at b 4) (word-at b 8) y t) third
-          ∙ ap (if-tagged ofImage (word-at b 4) (word-at b 8) (drop 12 b)) known
-          ∙ sym (cond-true _ _ _ whole)
+        ∙ ap (λ y. with-tag ofImage (word-at b 4) y image t) second
+        ∙ ap (λ y. with-tag ofImage (word-at b 4) (word-at b 8) y t) third
+        ∙ ap (if-tagged ofImage (word-at b 4) (word-at b 8) (drop 12 b)) known
+        ∙ sym (cond-true _ _ _ whole)
 
     -- a block that reads as a record is that record's block
     pub encodes : (imageOf : V → List ℕ) (x : Record V) → with-tag ofImage r a image t ≡ Some x → getD b 0 0 ≡ tag-byte t → bytes32 r ≡ take 4 (drop 4 b) → bytes32 a ≡ take 4 (drop 8 b) → image ≡ drop 12 b → image ≡ value-bytes imageOf (x .value) → b ≡ encoded imageOf x

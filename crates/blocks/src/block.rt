@@ -29,8 +29,26 @@ fn lay(tag: u8, r: [u8; 4], a: [u8; 4], v: [u8; 8]) -> [u8; 20]
     ensures { λ b. ⌜ b ≡ laid tag r a v ⌝ }
 {
     [
-        tag, 0, 0, 0, r[0], r[1], r[2], r[3], a[0], a[1], a[2], a[3], v[0], v[1], v[2], v[3], v[4],
-        v[5], v[6], v[7],
+        tag,
+        0,
+        0,
+        0,
+        r[0],
+        r[1],
+        r[2],
+        r[3],
+        a[0],
+        a[1],
+        a[2],
+        a[3],
+        v[0],
+        v[1],
+        v[2],
+        v[3],
+        v[4],
+        v[5],
+        v[6],
+        v[7],
     ]
 }
 
@@ -61,7 +79,14 @@ fn image(block: &[u8]) -> [u8; 8]
     ensures { λ r. ⌜ r ≡ drop 12 (now (block .entry)) ⌝ }
 {
     [
-        block[12], block[13], block[14], block[15], block[16], block[17], block[18], block[19],
+        block[12],
+        block[13],
+        block[14],
+        block[15],
+        block[16],
+        block[17],
+        block[18],
+        block[19],
     ]
 }
 

@@ -6,6 +6,9 @@ ghost use lib.ListN.{length};
 ghost use Rattle.registers.specs.Cells.{write-answer, write-cells};
 ghost use Rattle.registers.specs.Refusals.{numbered};
 ghost use Rattle.blocks.specs.BlockCells.{block-cells, write-bytes, rest-bytes};
+use super::bytes::count;
+use super::bytes::fetch;
+use super::bytes::store;
 use kinds::kind::Kind;
 use registers::bank::ReadBank;
 use registers::bank::WriteBank;
@@ -13,9 +16,6 @@ use registers::record::Fields;
 use registers::record::Record;
 use registers::refusal::Refusal;
 use std::marker::PhantomData;
-use super::bytes::count;
-use super::bytes::fetch;
-use super::bytes::store;
 
 // One register for each whole block, at most 128; what lies beyond is never touched.
 #[derive(Drop)]

@@ -4,16 +4,16 @@ ghost use lib.ListN.{length};
 ghost use Rattle.registers.specs.Cells.{read-answer, write-answer, write-cells};
 ghost use Rattle.registers.specs.Refusals.{numbered};
 ghost use Rattle.blocks.specs.BlockCells.{block-count, block-cells, write-bytes, rest-bytes};
-use kinds::kind::Kind;
-use registers::record::Fields;
-use registers::record::Record;
-use registers::record_bank::MAX_REGISTERS;
-use registers::refusal::Refusal;
 use super::block::BLOCK_LEN;
 use super::block::decode;
 use super::block::encode;
+use kinds::kind::Kind;
+use registers::bank::MAX_REGISTERS;
+use registers::record::Fields;
+use registers::record::Record;
+use registers::refusal::Refusal;
 
-pub fn count<K: Kind>(bytes: &[u8]) -> usize
+pub(crate) fn count<K: Kind>(bytes: &[u8]) -> usize
     ensures cells { λ r. ⌜ r ≡ length (block-cells (K·Kind .ofImage) (now (bytes .entry))) ⌝ }
     ensures blocks { λ r. ⌜ r ≡ block-count (length (now (bytes .entry))) ⌝ }
 {
@@ -25,10 +25,11 @@ pub fn count<K: Kind>(bytes: &[u8]) -> usize
     }
 }
 
-pub fn fetch<K: Kind>(bytes: &[u8], register: usize) -> Result<Record<K>, Refusal>
+pub(crate) fn fetch<K: Kind>(bytes: &[u8], register: usize) -> Result<Record<K>, Refusal>
     ensures { λ r. ⌜ numbered r ≡ read-answer (block-cells (K·Kind .ofImage) (now (bytes .entry))) register ⌝ }
 {
-    if register < 1 || register > count::<K>(bytes) {
+    let size = count::<K>(bytes);
+    if register < 1 || register > size {
         return Err(Refusal::NoRegister);
     }
     let at = BLOCK_LEN * (register - 1);
@@ -38,7 +39,7 @@ pub fn fetch<K: Kind>(bytes: &[u8], register: usize) -> Result<Record<K>, Refusa
     }
 }
 
-pub fn store<K: Kind>(
+pub(crate) fn store<K: Kind>(
     bytes: &mut [u8],
     register: usize,
     fields: &Fields<K>,
@@ -49,7 +50,8 @@ pub fn store<K: Kind>(
     ensures size { λ _. ⌜ length (block-cells (K·Kind .ofImage) (now (bytes .exit))) ≡ length (block-cells (K·Kind .ofImage) (now (bytes .entry))) ⌝ }
     ensures rest { λ _. ⌜ rest-bytes (now (bytes .exit)) ≡ rest-bytes (now (bytes .entry)) ⌝ }
 {
-    if register < 1 || register > count::<K>(bytes) {
+    let size = count::<K>(bytes);
+    if register < 1 || register > size {
         return Err(Refusal::NoRegister);
     }
     match Record::new(*fields) {

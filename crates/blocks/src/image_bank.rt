@@ -1,13 +1,13 @@
 // A bank on bytes that nobody writes, with the reading side only.
 ghost use mathlib.Core.Path.{_≡_};
 ghost use Rattle.blocks.specs.BlockCells.{block-cells};
+use super::bytes::count;
+use super::bytes::fetch;
 use kinds::kind::Kind;
 use registers::bank::ReadBank;
 use registers::record::Record;
 use registers::refusal::Refusal;
 use std::marker::PhantomData;
-use super::bytes::count;
-use super::bytes::fetch;
 
 // One register for each whole block, at most 128.
 #[derive(Drop)]

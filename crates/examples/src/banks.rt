@@ -8,14 +8,14 @@ use kinds::batch::Batch;
 use kinds::batch::BatchDebug;
 use kinds::batch::BatchKind;
 use kinds::batch::BatchPartialEq;
+use record_bank::RecordBank;
+use record_bank::RecordBankRead;
+use record_bank::RecordBankWrite;
 use registers::bank::ReadBank;
 use registers::bank::WriteBank;
 use registers::decision::look_up;
 use registers::record::Fields;
 use registers::record::Record;
-use registers::record_bank::RecordBank;
-use registers::record_bank::RecordBankRead;
-use registers::record_bank::RecordBankWrite;
 use registers::refusal::Refusal;
 use registers::refusal::RefusalDebug;
 use registers::refusal::RefusalPartialEq;
@@ -48,7 +48,9 @@ fn bytes_hold_128_blocks_and_no_more(rt: LibcRuntime) -> Result<(), Fail> {
     let mut bank = BlockBank::<Batch>::new(bytes.as_mut_slice());
     check_eq(bank.size(), 128)?;
     check_eq(bank.write(129, &decided(1, 9)), Err(Refusal::NoRegister))?;
-    check_eq(bank.write(0, &decided(0, 9)), Err(Refusal::NoRegister)).note("the number comes first")?;
+    check_eq(bank.write(0, &decided(0, 9)), Err(Refusal::NoRegister)).note(
+        "the number comes first",
+    )?;
     check_eq(bank.write(128, &decided(0, 9)), Err(Refusal::Unlawful))?;
     check_eq(bank.write(128, &decided(1, 9)), Ok(()))?;
     check(bank.read(128).is_ok())?;
@@ -57,9 +59,34 @@ fn bytes_hold_128_blocks_and_no_more(rt: LibcRuntime) -> Result<(), Fail> {
 }
 
 fn only_block_128_changed(bytes: &[u8]) -> Result<(), Fail> {
-    let block = [0x44u8, 0, 0, 0, 0, 0, 0, 1, 0, 0, 0, 1, 0x42, 0, 0, 0, 0, 0, 0, 9];
+    let block = [
+        0x44u8,
+        0,
+        0,
+        0,
+        0,
+        0,
+        0,
+        1,
+        0,
+        0,
+        0,
+        1,
+        0x42,
+        0,
+        0,
+        0,
+        0,
+        0,
+        0,
+        9,
+    ];
     for (i, byte) in bytes.iter().enumerate() {
-        let want = if 2540 <= i && i < 2560 { block[i - 2540] } else { 0x4E };
+        let want = if 2540 <= i && i < 2560 {
+            block[i - 2540]
+        } else {
+            0x4E
+        };
         check_eq(*byte, want)?;
     }
     Ok(())

@@ -17,10 +17,52 @@ use registers::tag::TagDebug;
 use registers::tag::TagPartialEq;
 use std::test::*;
 
-const BLANK: [u8; 20] = [0x4E, 0, 0, 0, 0, 0, 0, 0, 0, 0, 0, 0, 0, 0, 0, 0, 0, 0, 0, 0];
+const BLANK: [u8; 20] = [
+    0x4E,
+    0,
+    0,
+    0,
+    0,
+    0,
+    0,
+    0,
+    0,
+    0,
+    0,
+    0,
+    0,
+    0,
+    0,
+    0,
+    0,
+    0,
+    0,
+    0,
+];
 
 // Round 3, accepted round 3, tag pro, batch 5.
-const PUT: [u8; 20] = [0x50, 0, 0, 0, 0, 0, 0, 3, 0, 0, 0, 3, 0x42, 0, 0, 0, 0, 0, 0, 5];
+const PUT: [u8; 20] = [
+    0x50,
+    0,
+    0,
+    0,
+    0,
+    0,
+    0,
+    3,
+    0,
+    0,
+    0,
+    3,
+    0x42,
+    0,
+    0,
+    0,
+    0,
+    0,
+    0,
+    5,
+];
 
 fn with_byte(block: [u8; 20], at: usize, byte: u8) -> [u8; 20] {
     let mut changed = block;
@@ -66,7 +108,28 @@ fn only_blocks_of_lawful_records_are_read() -> Result<(), Fail> {
     check(!is_batch(&[0; 20])).note("twenty zero bytes")?;
     check(!is_batch(&BLANK[0..19])).note("nineteen bytes")?;
     check(!is_choice(&PUT)).note("the image of the other kind")?;
-    let limit = [0x4E, 0, 0, 0, 0x3B, 0x9A, 0xCA, 0x00, 0, 0, 0, 0, 0, 0, 0, 0, 0, 0, 0, 0];
+    let limit = [
+        0x4E,
+        0,
+        0,
+        0,
+        0x3B,
+        0x9A,
+        0xCA,
+        0x00,
+        0,
+        0,
+        0,
+        0,
+        0,
+        0,
+        0,
+        0,
+        0,
+        0,
+        0,
+        0,
+    ];
     check(is_batch(&limit)).note("round 1,000,000,000")?;
     check(!is_batch(&with_byte(limit, 7, 1))).note("one round above it")?;
     check(!is_batch(&with_byte(PUT, 7, 2))).note("accepted above the round")?;
@@ -109,13 +172,41 @@ fn texts_are_read_exactly(rt: LibcRuntime) -> Result<(), Fail> {
     Batch::new(4294967295).append_text(&mut out)?;
     choice.append_text(&mut out)?;
     check(out.as_str() == "42949672950/7")?;
-    check_eq(Batch::from_text(b"4294967295"), Some(Batch::new(4294967295)))?;
+    check_eq(
+        Batch::from_text(b"4294967295"),
+        Some(Batch::new(4294967295)),
+    )?;
     check_eq(Batch::from_text(b"0"), Some(Batch::new(0)))?;
     check_eq(Choice::from_text(b"95/65535"), Choice::new(95, 65535))?;
-    for text in ["", "4294967296", "00", "05", "+5", "-0", " 5", "5 ", "5\r", "0x5", "1/1"] {
+    for text in [
+        "",
+        "4294967296",
+        "00",
+        "05",
+        "+5",
+        "-0",
+        " 5",
+        "5 ",
+        "5\r",
+        "0x5",
+        "1/1",
+    ] {
         check(Batch::from_text(text.as_bytes()).is_none()).note("no batch")?;
     }
-    for text in ["", "/", "1", "0/0", "96/1", "1/65536", "01/1", "1/01", "1/1/1", "256/1", "1/", "/1"] {
+    for text in [
+        "",
+        "/",
+        "1",
+        "0/0",
+        "96/1",
+        "1/65536",
+        "01/1",
+        "1/01",
+        "1/1/1",
+        "256/1",
+        "1/",
+        "/1",
+    ] {
         check(Choice::from_text(text.as_bytes()).is_none()).note("no choice")?;
     }
     Ok(())

@@ -12,8 +12,66 @@ use report::view::view;
 use std::test::*;
 
 const IMAGE: [u8; 60] = [
-    0x50, 0, 0, 0, 0, 0, 0, 3, 0, 0, 0, 3, 0x42, 0, 0, 0, 0, 0, 0, 5, 0x4E, 0, 0, 0, 0, 0, 0, 0, 0, 0,
-    0, 0, 0, 0, 0, 0, 0, 0, 0, 0, 0x44, 0, 0, 0, 0, 0, 0, 4, 0, 0, 0, 2, 0x42, 0, 0, 0, 0, 0, 0, 7,
+    0x50,
+    0,
+    0,
+    0,
+    0,
+    0,
+    0,
+    3,
+    0,
+    0,
+    0,
+    3,
+    0x42,
+    0,
+    0,
+    0,
+    0,
+    0,
+    0,
+    5,
+    0x4E,
+    0,
+    0,
+    0,
+    0,
+    0,
+    0,
+    0,
+    0,
+    0,
+    0,
+    0,
+    0,
+    0,
+    0,
+    0,
+    0,
+    0,
+    0,
+    0,
+    0x44,
+    0,
+    0,
+    0,
+    0,
+    0,
+    0,
+    4,
+    0,
+    0,
+    0,
+    2,
+    0x42,
+    0,
+    0,
+    0,
+    0,
+    0,
+    0,
+    7,
 ];
 
 fn span(first: usize, count: usize) -> Option<Span> {
@@ -31,7 +89,11 @@ fn boxes_read_as_these_lines(rt: LibcRuntime) -> Result<(), Fail> {
     check(other.as_str() == "registers,2\n1,r3,,,\n2,none,0,0,\ndecision,r3\n")?;
     let out = view::<Batch>(heap, &IMAGE, span(2, 3))?;
     check(out.as_str() == "registers,0\ndecision,\n")?;
-    let far = view::<Batch>(heap, &IMAGE, span(18446744073709551615, 18446744073709551615))?;
+    let far = view::<Batch>(
+        heap,
+        &IMAGE,
+        span(18446744073709551615, 18446744073709551615),
+    )?;
     check(far.as_str() == "registers,0\ndecision,\n")
 }
 
@@ -44,7 +106,13 @@ fn arguments_ask_for_these_views() -> Result<(), Fail> {
     check_eq(Request::whole(b""), None)?;
     let kind = KindName::Batch;
     let most = 18446744073709551615;
-    check_eq(Request::window(b"B", b"0", b"18446744073709551615"), Some(Request { kind, span: span(0, most) }))?;
+    check_eq(
+        Request::window(b"B", b"0", b"18446744073709551615"),
+        Some(Request {
+            kind,
+            span: span(0, most),
+        }),
+    )?;
     check_eq(Request::window(b"B", b"1", b"18446744073709551616"), None)?;
     check_eq(Request::window(b"B", b"01", b"1"), None)?;
     check_eq(Request::window(b"B", b"1", b""), None)?;

@@ -17,14 +17,14 @@ use layers::permuted::PermutedWrite;
 use layers::window::Window;
 use layers::window::WindowRead;
 use layers::window::WindowWrite;
+use record_bank::RecordBank;
+use record_bank::RecordBankRead;
+use record_bank::RecordBankWrite;
 use registers::bank::ReadBank;
 use registers::bank::WriteBank;
 use registers::decision::look_up;
 use registers::record::Fields;
 use registers::record::Record;
-use registers::record_bank::RecordBank;
-use registers::record_bank::RecordBankRead;
-use registers::record_bank::RecordBankWrite;
 use registers::refusal::Refusal;
 use registers::refusal::RefusalDebug;
 use registers::refusal::RefusalPartialEq;
@@ -58,7 +58,10 @@ fn a_window_on_a_permutation_on_a_window_of_records() -> Result<(), Fail> {
     stack.point(3, 2);
     check_eq(stack.size(), 0).note("pointed past the end")?;
     check_eq(records[1].round(), 1).note("place 3 names register 1 of the inner window")?;
-    check_eq(records[0].round() + records[2].round() + records[3].round() + records[4].round(), 0)
+    check_eq(
+        records[0].round() + records[2].round() + records[3].round() + records[4].round(),
+        0,
+    )
 }
 
 #[test]
@@ -72,7 +75,28 @@ fn the_same_stack_on_bytes_with_choices() -> Result<(), Fail> {
     };
     settle_in_second(&mut stack, choice)?;
     check_eq(look_up(&stack), Err(Refusal::Unreadable))?;
-    let block = [0x44, 0, 0, 0, 0, 0, 0, 1, 0, 0, 0, 1, 0x43, 7, 0, 2, 0, 0, 0, 0];
+    let block = [
+        0x44,
+        0,
+        0,
+        0,
+        0,
+        0,
+        0,
+        1,
+        0,
+        0,
+        0,
+        1,
+        0x43,
+        7,
+        0,
+        2,
+        0,
+        0,
+        0,
+        0,
+    ];
     check(&bytes[40..60] == &block)?;
     for i in 0..100 {
         check(bytes[i] == 0x4E || (40 <= i && i < 60)).note("another byte was touched")?;

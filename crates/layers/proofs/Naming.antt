@@ -48,7 +48,7 @@ unfolding hits
 hits-most zero x = omega arith
 hits-most (suc n) x =
     elim (cases-eq x (n + 1)) [
-      inl e ↦ omega (arith, hits-none n x (inr (omega (arith, e))), met x (n + 1) e)
+      | inl e ↦ omega (arith, hits-none n x (inr (omega (arith, e))), met x (n + 1) e)
       | inr e ↦ omega (arith, hits-most n x, missed x (n + 1) e)
     ]
 

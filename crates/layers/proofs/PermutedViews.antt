@@ -47,15 +47,18 @@ module _ {V : Type 0} (cells : List (Cell V)) (order : List ℕ) where
     where
       most : permuted-size order (length cells) ≤ length cells
       most = elim (cases-bool whole) [
-          inl t ↦ omega (arith, cond-true whole (length cells) 0 t)
-          | inr t ↦ omega (arith, cond-false whole (length cells) 0 t)
-        ]
+        | inl t ↦ omega (arith, cond-true whole (length cells) 0 t)
+        | inr t ↦ omega (arith, cond-false whole (length cells) 0 t)
+      ]
+
       empty : whole ≡ false → ((j < 1) ⊎ (1 ≤ j)) → (j < 1) ⊎ (length (permuted-cells cells order) < j)
       empty t (inl p) = inl p
       empty t (inr p) = inr (omega (arith, permuted-length, cond-false whole (length cells) 0 t))
+
       high : ((j < 1) ⊎ (length cells < j)) → (j < 1) ⊎ (length (permuted-cells cells order) < j)
       high (inl p) = inl p
       high (inr p) = inr (omega (arith, permuted-length, most))
+
       by : ((whole ≡ false) ⊎ (stands (length cells) j ≡ false)) → (j < 1) ⊎ (length (permuted-cells cells order) < j)
       by (inl t) = empty t (cases-lt j 1)
       by (inr t) = high (not-standing (length cells) j t)
@@ -90,12 +93,12 @@ module _ {V : Type 0} (cells : List (Cell V)) (order : List ℕ) where
 
     pub permuted-shows : Shows cells (permuted-cells cells order) j at
     permuted-shows = record {
-        low = stood .0;
-        high = omega (arith, permuted-length, cond-true whole (length cells) 0 (tests .0), stood .1);
-        below-low = at-low;
-        below-high = at-high;
-        same = ap under is-at ∙ sym (permuted-at (j - 1) index)
-      }
+      low = stood .0;
+      high = omega (arith, permuted-length, cond-true whole (length cells) 0 (tests .0), stood .1);
+      below-low = at-low;
+      below-high = at-high;
+      same = ap under is-at ∙ sym (permuted-at (j - 1) index);
+    }
 
     still : (x : Cell V) → eqb (length order) (length (set cells (at - 1) x)) ≡ true
     still x = eq-eqb (length order) (length (set cells (at - 1) x)) (sizes ∙ sym (length-set cells (at - 1) x))
@@ -108,10 +111,13 @@ module _ {V : Type 0} (cells : List (Cell V)) (order : List ℕ) where
       where
         is-map′ : permuted-cells (set cells (at - 1) x) order ≡ map (λ p. getD (set cells (at - 1) x) (p - 1) None) order
         is-map′ = cond-true _ (map (λ p. getD (set cells (at - 1) x) (p - 1) None) order) [] (still x)
+
         shown-length : length (permuted-cells cells order) ≡ length order
         shown-length = ap length is-map ∙ length-map order under
+
         lengths : length (map (λ p. getD (set cells (at - 1) x) (p - 1) None) order) ≡ length (set (permuted-cells cells order) (j - 1) x)
         lengths = length-map order (λ p. getD (set cells (at - 1) x) (p - 1) None) ∙ sym (length-set (permuted-cells cells order) (j - 1) x ∙ shown-length)
+
         each : (k : ℕ) → k < length order → ((k ≡ j - 1) ⊎ (k ≡ j - 1 → ⊥)) → getD (map (λ p. getD (set cells (at - 1) x) (p - 1) None) order) k None ≡ getD (set (permuted-cells cells order) (j - 1) x) k None
         each k h (inl same) =
             let here : getD order k 0 - 1 ≡ at - 1 = ap (λ i. getD order i 0 - 1) same ∙ ap (λ p. p - 1) (sym is-at) in

@@ -38,7 +38,7 @@ all-at zero k P e h = let z : ⊥ = omega arith in absurd z
 all-at (suc n) k P e h =
     let a = and-parts (all-below n P) (P n) e in
     elim (cases-eq k n) [
-      inl same ↦ ap P same ∙ a .1
+      | inl same ↦ ap P same ∙ a .1
       | inr other ↦ all-at n k P (a .0) (omega (arith, other))
     ]
 
@@ -46,6 +46,6 @@ pub all-fails : (n k : ℕ) (P : ℕ → Bool) → k < n → P k ≡ false → a
 all-fails zero k P h e = let z : ⊥ = omega arith in absurd z
 all-fails (suc n) k P h e =
     elim (cases-eq k n) [
-      inl same ↦ and-right (all-below n P) (P n) (ap P (sym same) ∙ e)
+      | inl same ↦ and-right (all-below n P) (P n) (ap P (sym same) ∙ e)
       | inr other ↦ and-left (all-below n P) (P n) (all-fails n k P (omega (arith, other)) e)
     ]

@@ -105,7 +105,7 @@ module _ {V : Type 0} (cells : List (Cell V)) (first count j : ℕ) where
           high = omega (arith, stood .1, window-length cells first count);
           below-low = omega (arith, is-at, w .0 .low);
           below-high = omega (arith, is-at, w .0 .low, w .0 .high, w .1);
-          same = ap (λ i. getD cells (i - 1) None) is-at ∙ window-at cells first count j (stood .0) (stood .1) None
+          same = ap (λ i. getD cells (i - 1) None) is-at ∙ window-at cells first count j (stood .0) (stood .1) None;
         }
 
     pub window-follows : (x : Cell V) → window-cells (set cells (at - 1) x) first count ≡ set (window-cells cells first count) (j - 1) x

@@ -1,4 +1,4 @@
 // Layers over any bank of registers, each a bank again: windows and permutations, in any order and to any depth.
-pub mod window;
 pub mod permutation;
 pub mod permuted;
+pub mod window;

@@ -5,12 +5,12 @@ ghost use Rattle.registers.specs.Cells.{write-answer, write-cells};
 ghost use Rattle.registers.specs.Refusals.{numbered};
 ghost use Rattle.layers.specs.Below.{write-below};
 ghost use Rattle.layers.specs.Permuting.{named, permuted-size, permuted-place, permuted-cells, PermutedRest, permuted-rest};
+use super::permutation::Permutation;
 use registers::bank::ReadBank;
 use registers::bank::WriteBank;
 use registers::record::Fields;
 use registers::record::Record;
 use registers::refusal::Refusal;
-use super::permutation::Permutation;
 
 // Register j is the j-th one that the permutation names. Over a bank of another size than the
 // permutation's there is no register. The permutation is lent, so that a layer may stand on this one.
@@ -33,11 +33,7 @@ impl<'o, B> Permuted<'o, B> {
 fn extent(order: &Permutation, size: usize) -> usize
     ensures { λ r. ⌜ r ≡ permuted-size (named (now (order .entry))) size ⌝ }
 {
-    if order.count() == size {
-        size
-    } else {
-        0
-    }
+    if order.count() == size { size } else { 0 }
 }
 
 pub impl<'o, B: ReadBank> ReadBank for Permuted<'o, B> as PermutedRead {

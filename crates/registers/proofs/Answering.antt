@@ -59,6 +59,11 @@ module _ {V : Type 0} (cells : List (Cell V)) (j : ℕ) where
       by (inl e) = ap length (cond-true _ (made-cells cells j (made f)) cells e) ∙ made-length (made f)
       by (inr e) = ap length (cond-false _ (made-cells cells j (made f)) cells e)
 
+-- what the code tests before a refusal
+pub out-of-range : (n j size : ℕ) → size ≡ n → (j < 1) ⊎ ((1 ≤ j) × (size < j)) → (j < 1) ⊎ (n < j)
+out-of-range n j size e (inl p) = inl p
+out-of-range n j size e (inr p) = inr (omega (arith, e, p .1))
+
 -- the next register of a walk from the first
 pub reads-next : {V : Type 0} (cells : List (Cell V)) (i : ℕ) → i < length cells → read-answer cells (i + 1) ≡ cell-answer (getD cells i None)
 reads-next cells i h =

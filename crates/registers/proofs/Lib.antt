@@ -1,4 +1,3 @@
 pub mod Making
 pub mod Answering
-pub mod RecordBanks
 pub mod Looking

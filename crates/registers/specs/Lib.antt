@@ -3,5 +3,4 @@ pub mod Refusals
 pub mod Lawful
 pub mod Records
 pub mod Cells
-pub mod RecordCells
 pub mod Decision

@@ -8,6 +8,9 @@ use super::record::Fields;
 use super::record::Record;
 use super::refusal::Refusal;
 
+// The most registers that a bank has, however much memory it is given.
+pub const MAX_REGISTERS: usize = 128;
+
 // A bank is known by the list of its cells, register 1 first.
 pub trait ReadBank {
     type Value: Copy;

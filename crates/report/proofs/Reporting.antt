@@ -15,9 +15,9 @@ module _ {V : Type 0} (textOf : V → List ℕ) (cells : List (Cell V)) (i : ℕ
   line-more written more line all h inv is grown =
       let left = register-lines textOf (i + 1 + 1) (drop (i + 1) cells) in
       ap (λ l. l ++ left) (grown ∙ ap (λ l. written ++ l) (is ∙ ap (register-line textOf (i + 1)) (reads-next cells i h)))
-        ∙ append-assoc written (register-line textOf (i + 1) (cell-answer (getD cells i None))) left
-        ∙ ap (λ l. written ++ register-lines textOf (i + 1) l) (sym (drop-more cells i None h))
-        ∙ inv
+      ∙ append-assoc written (register-line textOf (i + 1) (cell-answer (getD cells i None))) left
+      ∙ ap (λ l. written ++ register-lines textOf (i + 1) l) (sym (drop-more cells i None h))
+      ∙ inv
 
   -- no register is left
   pub line-all : (written all : List ℕ) → length cells ≤ i → written ++ register-lines textOf (i + 1) (drop i cells) ≡ all → written ≡ all

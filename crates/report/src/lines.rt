@@ -26,10 +26,13 @@ fn value_text<K: Kind>(heap: Global, value: Option<K>) -> Result<String, AllocEr
     ensures { λ r. ⌜ made r (λ s. string-bytes s ≡ value-text (K·Kind .textOf) value) ⌝ }
 {
     let mut text = String::new(heap);
-    if let Some(value) = value {
-        value.append_text(&mut text)?;
+    match value {
+        None => Ok(text),
+        Some(value) => {
+            value.append_text(&mut text)?;
+            Ok(text)
+        }
     }
-    Ok(text)
 }
 
 fn record_row(
@@ -64,14 +67,14 @@ fn refused_decision_row(heap: Global, refusal: u8) -> Result<String, AllocError>
 }
 
 // The first line.
-pub fn size_line(heap: Global, size: usize) -> Result<String, AllocError>
+pub(crate) fn size_line(heap: Global, size: usize) -> Result<String, AllocError>
     ensures { λ r. ⌜ made r (λ s. string-bytes s ≡ size-row size) ⌝ }
 {
     format!(heap, "registers,{size}\n")
 }
 
 // The line of a register, by what its read answered.
-pub fn register_line<K: Kind>(
+pub(crate) fn register_line<K: Kind>(
     heap: Global,
     number: usize,
     answer: Result<Record<K>, Refusal>,
@@ -82,14 +85,21 @@ pub fn register_line<K: Kind>(
         Ok(item) => {
             let value = value_text(heap, item.value())?;
             let tag = tag_word(item.tag());
-            record_row(heap, number, tag, item.round(), item.accepted(), value.as_str())
+            record_row(
+                heap,
+                number,
+                tag,
+                item.round(),
+                item.accepted(),
+                value.as_str(),
+            )
         }
         Err(refusal) => refusal_row(heap, number, refusal.number()),
     }
 }
 
 // The last line, by what the look-up answered.
-pub fn decision_line<K: Kind>(
+pub(crate) fn decision_line<K: Kind>(
     heap: Global,
     answer: Result<Option<K>, Refusal>,
 ) -> Result<String, AllocError>

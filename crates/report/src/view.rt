@@ -4,6 +4,10 @@ ghost use Rattle.std.specs.Of.String.{string-bytes};
 ghost use Rattle.std.specs.Vec.{made};
 ghost use Rattle.report.specs.Lines.{report-text};
 ghost use Rattle.report.specs.Views.{viewed-cells};
+use super::lines::decision_line;
+use super::lines::register_line;
+use super::lines::size_line;
+use super::request::Span;
 use blocks::image_bank::ImageBank;
 use blocks::image_bank::ImageBankRead;
 use kinds::kind::Kind;
@@ -13,16 +17,9 @@ use registers::bank::ReadBank;
 use registers::decision::look_up;
 use std::alloc::AllocError;
 use std::alloc::Global;
-use super::lines::decision_line;
-use super::lines::register_line;
-use super::lines::size_line;
-use super::request::Span;
 
 // The number of registers, a line for each, and the decision that the bank shows.
-pub fn report<K: Kind, B: ReadBank<Value = K>>(
-    heap: Global,
-    bank: &B,
-) -> Result<String, AllocError>
+pub fn report<K: Kind, B: ReadBank<Value = K>>(heap: Global, bank: &B) -> Result<String, AllocError>
     ensures { λ r. ⌜ made r (λ s. string-bytes s ≡ report-text (K·Kind .textOf) (B·ReadBank .cells (now (bank .entry)))) ⌝ }
 {
     let size = bank.size();
@@ -37,11 +34,7 @@ pub fn report<K: Kind, B: ReadBank<Value = K>>(
 }
 
 // The report on a box, whole or through a window.
-pub fn view<K: Kind>(
-    heap: Global,
-    bytes: &[u8],
-    span: Option<Span>,
-) -> Result<String, AllocError>
+pub fn view<K: Kind>(heap: Global, bytes: &[u8], span: Option<Span>) -> Result<String, AllocError>
     ensures { λ r. ⌜ made r (λ s. string-bytes s ≡ report-text (K·Kind .textOf) (viewed-cells (K·Kind .ofImage) (now (bytes .entry)) span)) ⌝ }
 {
     let bank = ImageBank::<K>::new(bytes);

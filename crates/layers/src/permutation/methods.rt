@@ -46,14 +46,14 @@ impl Permutation {
     }
 
     // How many registers it names.
-    pub fn count(&self) -> usize
+    pub(crate) fn count(&self) -> usize
         ensures { λ r. ⌜ r ≡ length (named (now (self .entry))) ⌝ }
     {
         self.count
     }
 
     // The register of `size` of them that is named at this place, which is counted from 1.
-    pub fn place(&self, size: usize, register: usize) -> Option<usize>
+    pub(crate) fn place(&self, size: usize, register: usize) -> Option<usize>
         ensures { λ r. ⌜ r ≡ permuted-place (named (now (self .entry))) size register ⌝ }
     {
         if self.count != size || register < 1 || register > size {

@@ -17,5 +17,5 @@ returns-in-Some g c =
     let known = c .in-Some .ensures tt .value in
     record {
       value = c .read-tagged .ensures .value ∙ decodes (k .ofImage) b whole t known r a v (c .word .ensures .value) (c .word-in-Some .ensures .value) (c .image .ensures);
-      only = λ x e. encodes (k .ofImage) b whole t known r a v (k .imageOf) x (sym (c .read-tagged .ensures .value) ∙ e) (c .in-Some .ensures tt .only t refl) (c .word .ensures .bytes) (c .word-in-Some .ensures .bytes) (c .image .ensures) (c .read-tagged .ensures .only x e)
+      only = λ x e. encodes (k .ofImage) b whole t known r a v (k .imageOf) x (sym (c .read-tagged .ensures .value) ∙ e) (c .in-Some .ensures tt .only t refl) (c .word .ensures .bytes) (c .word-in-Some .ensures .bytes) (c .image .ensures) (c .read-tagged .ensures .only x e);
     }

@@ -20,5 +20,5 @@ returns g c =
     let bytes : c .lay .result ≡ encoded (k .imageOf) x = c .lay .ensures ∙ laid-same tag round accepted value in
     record {
       bytes = bytes;
-      back = ap (decoded (k .ofImage)) bytes ∙ round-trip (k .ofImage) (k .imageOf) x (subst (ImagedBack (k .imageOf) (k .ofImage)) (c .value .ensures) (c .value-image .ensures .back)) (ap length (sym value) ∙ eight)
+      back = ap (decoded (k .ofImage)) bytes ∙ round-trip (k .ofImage) (k .imageOf) x (subst (ImagedBack (k .imageOf) (k .ofImage)) (c .value .ensures) (c .value-image .ensures .back)) (ap length (sym value) ∙ eight);
     }

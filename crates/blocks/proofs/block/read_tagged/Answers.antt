@@ -13,5 +13,5 @@ returns-else-not-is-zero g c =
     let k = g .K·Kind in
     record {
       value = c .new .ensures .value ∙ untagged (k .ofImage) (c .args .round) (c .args .accepted) (c .args .tag) (c .args .image) zero (c .in-None .is);
-      only = λ x e. untagged-image (k .ofImage) (c .args .round) (c .args .accepted) (c .args .tag) (c .args .image) zero (k .imageOf) x sized (sym (c .new .ensures .value) ∙ e)
+      only = λ x e. untagged-image (k .ofImage) (c .args .round) (c .args .accepted) (c .args .tag) (c .args .image) zero (k .imageOf) x sized (sym (c .new .ensures .value) ∙ e);
     }

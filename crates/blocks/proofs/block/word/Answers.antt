@@ -13,5 +13,5 @@ returns c =
     let at = c .args .at in
     record {
       value = c .from-be-bytes .ensures;
-      bytes = ap bytes32 (c .from-be-bytes .ensures) ∙ bytes-of-word (getD b at 0) (getD b (at + 1) 0) (getD b (at + 2) 0) (getD b (at + 3) 0) (omega (arith, c .typed .block at)) (omega (arith, c .typed .block (at + 1))) (omega (arith, c .typed .block (at + 2))) (omega (arith, c .typed .block (at + 3))) ∙ sym (four-at b at (omega arith))
+      bytes = ap bytes32 (c .from-be-bytes .ensures) ∙ bytes-of-word (getD b at 0) (getD b (at + 1) 0) (getD b (at + 2) 0) (getD b (at + 3) 0) (omega (arith, c .typed .block at)) (omega (arith, c .typed .block (at + 1))) (omega (arith, c .typed .block (at + 2))) (omega (arith, c .typed .block (at + 3))) ∙ sym (four-at b at (omega arith));
     }

@@ -30,5 +30,5 @@ returns-in-Some g c =
       bytes = stored-bytes draw see bs ys j k f r e full low high is sized back;
       after = stored-after draw see bs ys j k f r e full low high is sized back;
       size = stored-size draw see bs ys j k f r e full low high is sized back;
-      rest = stored-rest draw see bs ys j k f r e full low high is sized back
+      rest = stored-rest draw see bs ys j k f r e full low high is sized back;
     }

@@ -17,7 +17,7 @@ loop-place-again c =
     let i = c .loop-place .place-index in
     let h : c .loop-place .place-index < length (c .args .list .now) = omega arith in
     elim (c .if-place-register .came) [
-      then-place-register w ↦ (omega (arith, w .n-is, countBy-more-yes (λ x. eqb x j) xs i 0 h (eq-eqb (getD xs i 0) j (w .if-place-register .taken))), omega (arith, w .n-is))
+      | then-place-register w ↦ (omega (arith, w .n-is, countBy-more-yes (λ x. eqb x j) xs i 0 h (eq-eqb (getD xs i 0) j (w .if-place-register .taken))), omega (arith, w .n-is))
       | else-place-register w ↦ (omega (arith, w .n-is, countBy-more-no (λ x. eqb x j) xs i 0 h (ne-eqb (getD xs i 0) j (w .if-place-register .left))), omega (arith, w .n-is))
     ]
 

@@ -23,7 +23,7 @@ returns-in-None g c =
       after = sym (writes-cells-none (permuted-cells cells order) j out f);
       size = refl;
       rest = refl;
-      below = ap (λ p. write-below p cells f) e
+      below = ap (λ p. write-below p cells f) e;
     }
 
 pub returns-in-Some : need.returns-in-Some
@@ -44,5 +44,5 @@ returns-in-Some g c =
       after = after;
       size = ap length after ∙ write-length (permuted-cells cells order) j f;
       rest = ap (λ l. record { order = order; outside = l; below = g .B·WriteBank .rest (c .write .last .self) }) outside ∙ ap (λ r. record { order = order; outside = permuted-outside cells order; below = r }) (c .write .ensures .rest);
-      below = c .write .ensures .after ∙ ap (λ p. write-below p cells f) e
+      below = c .write .ensures .after ∙ ap (λ p. write-below p cells f) e;
     }

@@ -21,7 +21,7 @@ returns-in-None g c =
       after = sym (writes-cells-none (window-cells cells (w .first) (w .count)) j out f);
       size = refl;
       rest = refl;
-      below = ap (λ p. write-below p cells f) e
+      below = ap (λ p. write-below p cells f) e;
     }
 
 pub returns-in-Some : need.returns-in-Some
@@ -40,5 +40,5 @@ returns-in-Some g c =
       after = after;
       size = ap length after ∙ write-length (window-cells cells (w .first) (w .count)) j f;
       rest = ap (λ l. record { first = w .first; count = w .count; outside = l; below = g .B·WriteBank .rest (c .write .last .self) }) outside ∙ ap (λ r. record { first = w .first; count = w .count; outside = window-outside cells (w .first) (w .count); below = r }) (c .write .ensures .rest);
-      below = c .write .ensures .after ∙ ap (λ p. write-below p cells f) e
+      below = c .write .ensures .after ∙ ap (λ p. write-below p cells f) e;
     }
