@@ -9,6 +9,7 @@ use Rattle.std.proofs.shelf.Tests.{cond-true}
 use Rattle.std.specs.Options.{isSome}
 use Rattle.std.specs.declared.option.Option.{Option}
 use Rattle.std.specs.declared.option.Option.the-variants.{None, Some}
+use Rattle.decimals.proofs.Apart.{none-some}
 use Rattle.kinds.specs.Words.{bytes32}
 use Rattle.kinds.proofs.WordLaws.{word-of-bytes}
 use Rattle.registers.specs.declared.tag.Tag.{Tag}
@@ -32,13 +33,10 @@ module _ {V : Type 0} (ofImage : List ℕ → Option V) where
   abbrev fields : ℕ → ℕ → Tag → Option V → Fields V
   fields r a t v = record { round = r; accepted = a; tag = t; value = v }
 
-  nothing : {X : Type 0} {x : X} → None ≡ Some x → ⊥
-  nothing e = let z : _≡_ {A = ℕ} 0 1 = cc in omega arith
-
   module _ (imageOf : V → List ℕ) where
     by-tag : (r a : ℕ) (t : Tag) (v : Option V) (e : is-lawful r a t v ≡ true) → ImagedBack imageOf ofImage v → with-tag ofImage r a (value-bytes imageOf v) t ≡ Some (with-fields (fields r a t v) e)
     by-tag r a Untagged None e back = made-with (fields r a Untagged None) e
-    by-tag r a Untagged (Some v) e back = absurd (nothing (sym (lawful-from r a Untagged (Some v) e .accepts .1)))
+    by-tag r a Untagged (Some v) e back = absurd (none-some (sym (lawful-from r a Untagged (Some v) e .accepts .1)))
     by-tag r a Pro None e back = absurd (true≢false (sym (lawful-from {V = V} r a Pro None e .accepts .1)))
     by-tag r a Pro (Some v) e back = ap (with-value r a Pro) back ∙ made-with (fields r a Pro (Some v)) e
     by-tag r a Dec None e back = absurd (true≢false (sym (lawful-from {V = V} r a Dec None e .accepts .1)))
@@ -68,12 +66,12 @@ module _ {V : Type 0} (ofImage : List ℕ → Option V) where
       record { round = ap (λ f. f .round) same; accepted = ap (λ f. f .accepted) same; tag = ap (λ f. f .tag) same }
 
   value-parts : (r a : ℕ) (t : Tag) (v : Option V) (x : Record V) → with-value r a t v ≡ Some x → Parts r a t x
-  value-parts r a t None x e = absurd (nothing e)
+  value-parts r a t None x e = absurd (none-some e)
   value-parts r a t (Some v) x e = made-parts r a t (Some v) x e
 
   zero-parts : (r a : ℕ) (b : Bool) (x : Record V) → cond b (made (fields r a Untagged None)) None ≡ Some x → Parts r a Untagged x
   zero-parts r a true x e = made-parts r a Untagged None x e
-  zero-parts r a false x e = absurd (nothing e)
+  zero-parts r a false x e = absurd (none-some e)
 
   pub tagged-parts : (r a : ℕ) (image : List ℕ) (t : Tag) (x : Record V) → with-tag ofImage r a image t ≡ Some x → Parts r a t x
   tagged-parts r a image Untagged x e = zero-parts r a (all-zero image) x e

@@ -57,11 +57,12 @@ pub fn encode<K: Kind>(item: &Record<K>) -> [u8; 20]
     ensures bytes { λ r. ⌜ r ≡ encoded (K·Kind .imageOf) (now (item .entry)) ⌝ }
     ensures back { λ r. ⌜ decoded (K·Kind .ofImage) r ≡ Some (now (item .entry)) ⌝ }
 {
+    let fields = item.fields();
     lay(
-        item.tag().byte(),
-        item.round().to_be_bytes(),
-        item.accepted().to_be_bytes(),
-        value_image(item.value()),
+        fields.tag.byte(),
+        fields.round.to_be_bytes(),
+        fields.accepted.to_be_bytes(),
+        value_image(fields.value),
     )
 }
 

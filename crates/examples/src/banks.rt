@@ -22,88 +22,67 @@ use registers::refusal::RefusalPartialEq;
 use registers::tag::Tag;
 use std::test::*;
 
-fn decided(round: u32, number: u32) -> Fields<Batch> {
+fn decided(round: u32) -> Fields<Batch> {
     Fields {
         round,
         accepted: round,
         tag: Tag::Dec,
-        value: Some(Batch::new(number)),
+        value: Some(Batch::new(9)),
     }
 }
 
-// The size of an image bank on the first `len` bytes.
-fn image_size(bytes: &[u8], len: usize) -> usize {
-    if len > bytes.len() {
-        return 0;
-    }
-    ImageBank::<Batch>::new(&bytes[0..len]).size()
-}
-
-#[test]
-fn bytes_hold_128_blocks_and_no_more(rt: LibcRuntime) -> Result<(), Fail> {
-    let mut bytes = vec![in rt.alloc(); 0x4Eu8; 2599]?;
-    check_eq(image_size(bytes.as_slice(), 2599), 128)?;
-    check_eq(image_size(bytes.as_slice(), 2559), 127)?;
-    check_eq(image_size(bytes.as_slice(), 19), 0)?;
-    let mut bank = BlockBank::<Batch>::new(bytes.as_mut_slice());
+// A bank of 128 registers is written at its edges, and at last in register 128.
+fn write_at_the_edges<B: WriteBank<Value = Batch>>(bank: &mut B) -> Result<(), Fail> {
     check_eq(bank.size(), 128)?;
-    check_eq(bank.write(129, &decided(1, 9)), Err(Refusal::NoRegister))?;
-    check_eq(bank.write(0, &decided(0, 9)), Err(Refusal::NoRegister)).note(
-        "the number comes first",
-    )?;
-    check_eq(bank.write(128, &decided(0, 9)), Err(Refusal::Unlawful))?;
-    check_eq(bank.write(128, &decided(1, 9)), Ok(()))?;
-    check(bank.read(128).is_ok())?;
-    check_eq(look_up(&bank), Err(Refusal::Unreadable)).note("register 1 comes sooner")?;
-    only_block_128_changed(bytes.as_slice())
+    for (register, round, answer) in [
+        (0usize, 1u32, Err(Refusal::NoRegister)),
+        (0, 0, Err(Refusal::NoRegister)),
+        (129, 1, Err(Refusal::NoRegister)),
+        (128, 0, Err(Refusal::Unlawful)),
+        (128, 1, Ok(())),
+    ] {
+        check_eq(bank.write(register, &decided(round)), answer)?;
+    }
+    check(bank.read(128).is_ok() && bank.read(129).is_err())
 }
 
 fn only_block_128_changed(bytes: &[u8]) -> Result<(), Fail> {
-    let block = [
-        0x44u8,
-        0,
-        0,
-        0,
-        0,
-        0,
-        0,
-        1,
-        0,
-        0,
-        0,
-        1,
-        0x42,
-        0,
-        0,
-        0,
-        0,
-        0,
-        0,
-        9,
-    ];
+    let block = [0x44u8, 0, 0, 0, 0, 0, 0, 1, 0, 0, 0, 1, 0x42, 0, 0, 0, 0, 0, 0, 9];
     for (i, byte) in bytes.iter().enumerate() {
-        let want = if 2540 <= i && i < 2560 {
-            block[i - 2540]
-        } else {
-            0x4E
-        };
+        let want = if 2540 <= i && i < 2560 { block[i - 2540] } else { 0x4E };
         check_eq(*byte, want)?;
     }
     Ok(())
 }
 
 #[test]
+fn bytes_hold_128_blocks_and_no_more(rt: LibcRuntime) -> Result<(), Fail> {
+    let mut bytes = vec![in rt.alloc(); 0x4Eu8; 2599]?;
+    let mut bank = BlockBank::<Batch>::new(bytes.as_mut_slice());
+    write_at_the_edges(&mut bank)?;
+    check_eq(look_up(&bank), Err(Refusal::Unreadable)).note("register 1 comes sooner")?;
+    only_block_128_changed(bytes.as_slice())
+}
+
+#[test]
 fn records_hold_128_registers_and_no_more() -> Result<(), Fail> {
     let mut records = [Record::<Batch>::blank(); 130];
     let mut bank = RecordBank::new(&mut records);
-    check_eq(bank.size(), 128)?;
     check_eq(look_up(&bank), Ok(None))?;
-    check_eq(bank.write(129, &decided(1, 9)), Err(Refusal::NoRegister))?;
-    check_eq(bank.write(128, &decided(1, 9)), Ok(()))?;
-    check_eq(bank.write(7, &decided(2, 8)), Ok(()))?;
-    check_eq(look_up(&bank), Ok(Some(Batch::new(8))))?;
-    check(bank.read(129).is_err())?;
-    check_eq(records[127].round(), 1)?;
-    check_eq(records[128].round(), 0)?;
-    check_eq(records[129].round(), 0)
+    write_at_the_edges(&mut bank)?;
+    check_eq(look_up(&bank), Ok(Some(Batch::new(9))))?;
+    for (i, record) in records.iter().enumerate() {
+        check_eq(record.fields().round == 1, i == 127)?;
+    }
+    Ok(())
+}
+
+#[test]
+fn a_part_of_a_block_is_no_register(rt: LibcRuntime) -> Result<(), Fail> {
+    let bytes = vec![in rt.alloc(); 0u8; 2599]?;
+    for (len, size) in [(0usize, 0usize), (19, 0), (20, 1), (59, 2), (2559, 127), (2599, 128)] {
+        check(len <= bytes.len())?;
+        check_eq(ImageBank::<Batch>::new(&bytes[0..len]).size(), size)?;
+    }
+    Ok(())
 }

@@ -14,8 +14,8 @@ use Rattle.std.proofs.shelf.Ways.{tells}
 use Rattle.kinds.specs.declared.batch.Batch.{Batch}
 use Rattle.kinds.specs.BatchForms.{batch, batch-image, batch-of-image, is-batch-image, batch-text, batch-from, batch-of-text}
 use Rattle.kinds.specs.Words.{word32}
-use Rattle.kinds.proofs.Apart.{none-some}
-use Rattle.kinds.proofs.DecimalLaws.{back-decimal}
+use Rattle.decimals.proofs.Apart.{none-some}
+use Rattle.decimals.proofs.DecimalLaws.{back-decimal}
 use Rattle.kinds.proofs.WordLaws.{bytes-of-word, eight}
 
 pub only-batch-image : (xs : List ℕ) → length xs ≡ 8 → getD xs 4 0 < 256 → getD xs 5 0 < 256 → getD xs 6 0 < 256 → getD xs 7 0 < 256 → (b : Batch) → batch-of-image xs ≡ Some b → xs ≡ batch-image b

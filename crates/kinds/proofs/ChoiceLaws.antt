@@ -15,11 +15,11 @@ use Rattle.std.proofs.shelf.Tests.{cases-bool, cond-true, cond-false}
 use Rattle.std.proofs.shelf.Ways.{tells}
 use Rattle.kinds.specs.declared.choice.Choice.{Choice}
 use Rattle.kinds.specs.ChoiceForms.{choice-if, choice-of, choice-image, is-choice-image, choice-of-image, choice-text, choice-from, choice-of-text, slash-at}
-use Rattle.kinds.specs.Decimals.{read-decimal}
+use Rattle.decimals.specs.Decimals.{read-decimal}
 use Rattle.kinds.specs.Regions.{is-choice}
 use Rattle.kinds.specs.Words.{bytes16, word16}
-use Rattle.kinds.proofs.Apart.{none-some}
-use Rattle.kinds.proofs.DecimalLaws.{only-decimal, back-decimal, decimal-digits}
+use Rattle.decimals.proofs.Apart.{none-some}
+use Rattle.decimals.proofs.DecimalLaws.{only-decimal, back-decimal, decimal-digits}
 use Rattle.kinds.proofs.SlashLaws.{slash-splits, slash-after}
 use Rattle.kinds.proofs.WordLaws.{half-of-bytes, bytes-of-half, eight}
 

@@ -1,7 +1,5 @@
 -- The laws of words and of decimals are for other crates too.
-pub mod Apart
 pub mod WordLaws
-pub mod DecimalLaws
 pub mod SlashLaws
 pub mod BatchLaws
 pub mod ChoiceLaws

@@ -8,7 +8,7 @@ use Rattle.std.specs.Written.{decimal}
 use Rattle.std.specs.declared.option.Option.{Option}
 use Rattle.std.specs.declared.option.Option.the-variants.{None, Some}
 use Rattle.kinds.specs.declared.batch.Batch.{Batch}
-use Rattle.kinds.specs.Decimals.{read-decimal}
+use Rattle.decimals.specs.Decimals.{read-decimal}
 use Rattle.kinds.specs.Words.{bytes32, word32}
 
 abbrev pub batch : ℕ → Batch

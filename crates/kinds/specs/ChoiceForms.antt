@@ -10,7 +10,7 @@ use Rattle.std.specs.shelf.Lists.{leading}
 use Rattle.std.specs.declared.option.Option.{Option}
 use Rattle.std.specs.declared.option.Option.the-variants.{None, Some}
 use Rattle.kinds.specs.declared.choice.Choice.{Choice}
-use Rattle.kinds.specs.Decimals.{read-decimal}
+use Rattle.decimals.specs.Decimals.{read-decimal}
 use Rattle.kinds.specs.Regions.{is-choice}
 use Rattle.kinds.specs.Words.{bytes16, word16}
 

@@ -1,7 +1,7 @@
 // A batch of payments, by its number.
 ghost use mathlib.Core.Path.{_≡_};
 ghost use Rattle.kinds.specs.BatchForms.{batch, batch-image, batch-of-image, batch-text, batch-of-text};
-use super::decimal::read_decimal;
+use decimals::read_decimal;
 use super::kind::Kind;
 use std::alloc::AllocError;
 

@@ -1,5 +1,4 @@
 // The kinds of value that a pay run can settle on: each has an image of eight bytes, and a text.
 pub mod batch;
 pub mod choice;
-pub mod decimal;
 pub mod kind;

@@ -1,5 +1,5 @@
 -- A list that names each of as many registers as it is long exactly once names only those, and none at two places.
-use mathlib.Core.Path.{_≡_, refl, sym, ap, _∙_}
+use mathlib.Core.Path.{_≡_, refl, sym, ap, subst, _∙_}
 use mathlib.Core.Bool.{Bool, true, false, cond}
 use mathlib.Core.List.{List, [], _∷_, _++_}
 use mathlib.Core.Logic.{_⊎_, inl, inr}
@@ -11,7 +11,7 @@ use lib.Seq.{getD-take, getD-drop, take-append-seam}
 use Rattle.std.proofs.shelf.Sums.{sumBy-cons, sumBy-take-drop, getD-le-sumBy}
 use Rattle.std.proofs.shelf.Tests.{and-parts, and-from, leb-true, le-leb, eqb-true, eqb-false, eq-eqb, ne-eqb, cases-lt, cases-eq, cases-order, cond-true, cond-false}
 use Rattle.std.specs.shelf.Lists.{sumBy}
-use Rattle.layers.specs.Permutations.{max-permuted, times, all-below, each-once, is-permutation, kept-list}
+use Rattle.layers.specs.Permutations.{max-permuted, times, all-below, each-once, is-permutation, kept-list, Permutes}
 use Rattle.layers.specs.declared.permutation.Permutation.{Permutation}
 use Rattle.layers.specs.Permuting.{named}
 use Rattle.layers.proofs.Tests.{all-at}
@@ -129,6 +129,16 @@ few-named p = leb-true (p .count) max-permuted (and-parts (leb (p .count) max-pe
 pub once-named : (p : Permutation) → each-once (named p) ≡ true
 once-named p = and-parts (leb (p .count) max-permuted) (each-once (named p)) (p .lawful) .1
 
+pub permutes : (xs : List ℕ) → length xs ≤ max-permuted → each-once xs ≡ true → Permutes xs
+permutes xs few once =
+    record {
+      few = few;
+      once = λ j low high. let back : j - 1 + 1 ≡ j = omega arith in ap (λ k. times k xs) (sym back) ∙ eqb-true (times (j - 1 + 1) xs) 1 (all-at (length xs) (j - 1) (λ k. eqb (times (k + 1) xs) 1) once (omega arith));
+      low = named-low xs once;
+      high = named-high xs once;
+      apart = named-distinct xs once
+    }
+
 -- a permutation of at most eight registers that is copied to the front of the places
 module _ (xs front rest : List ℕ) (copied : front ≡ xs) (few : length xs ≤ max-permuted) (once : each-once xs ≡ true) where
   at-front : take (length xs) (front ++ rest) ≡ xs
@@ -139,3 +149,6 @@ module _ (xs front rest : List ℕ) (copied : front ≡ xs) (few : length xs ≤
 
   pub keeps : take (length xs) (front ++ rest) ≡ kept-list xs
   keeps = at-front ∙ sym (cond-true _ xs [] (and-from (leb (length xs) max-permuted) (each-once xs) (le-leb (length xs) max-permuted few) once))
+
+  pub keeps-permutes : Permutes (take (length xs) (front ++ rest))
+  keeps-permutes = subst Permutes (sym at-front) (permutes xs few once)

@@ -14,8 +14,9 @@ pub fn look_up<B: ReadBank>(bank: &B) -> Result<Option<B::Value>, Refusal>
 {
     for i in 0..bank.size() {
         let record = bank.read(i + 1)?;
-        if let Tag::Dec = record.tag() {
-            return Ok(record.value());
+        let fields = record.fields();
+        if let Tag::Dec = fields.tag {
+            return Ok(fields.value);
         }
     }
     Ok(None)

@@ -1,5 +1,6 @@
 // Why a bank refuses a read or a write.
 ghost use mathlib.Core.Path.{_≡_};
+ghost use Rattle.registers.specs.declared.refusal.Refusal.{Refusal};
 ghost use Rattle.registers.specs.Refusals.{refusal-number};
 
 #[derive(Clone, Copy, PartialEq, Eq, Debug)]
@@ -13,9 +14,10 @@ pub enum Refusal {
 }
 
 impl Refusal {
-    // The number by which users know the refusal.
+    // The number by which users know the refusal; no two have the same.
     pub fn number(self) -> u8
-        ensures { λ r. ⌜ r ≡ refusal-number self ⌝ }
+        ensures value { λ r. ⌜ r ≡ refusal-number self ⌝ }
+        ensures tells { λ r. ⌜ ((other : Refusal) → refusal-number other ≡ r → other ≡ self) ⌝ }
     {
         match self {
             Refusal::NoRegister => 1,

@@ -6,7 +6,7 @@ use lib.Dec.{eqb}
 use lib.ListN.{length, getD}
 use Rattle.std.specs.declared.option.Option.{Option}
 use Rattle.std.specs.declared.option.Option.the-variants.{None, Some}
-use Rattle.kinds.specs.Decimals.{read-decimal}
+use Rattle.decimals.specs.Decimals.{read-decimal}
 use Rattle.report.specs.declared.request.KindName.{KindName}
 use Rattle.report.specs.declared.request.KindName.the-variants.{Batch, Choice}
 use Rattle.report.specs.declared.request.Request.{Request}

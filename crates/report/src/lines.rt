@@ -83,16 +83,10 @@ pub(crate) fn register_line<K: Kind>(
 {
     match answer {
         Ok(item) => {
-            let value = value_text(heap, item.value())?;
-            let tag = tag_word(item.tag());
-            record_row(
-                heap,
-                number,
-                tag,
-                item.round(),
-                item.accepted(),
-                value.as_str(),
-            )
+            let fields = item.fields();
+            let value = value_text(heap, fields.value)?;
+            let tag = tag_word(fields.tag);
+            record_row(heap, number, tag, fields.round, fields.accepted, value.as_str())
         }
         Err(refusal) => refusal_row(heap, number, refusal.number()),
     }

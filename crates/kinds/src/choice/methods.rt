@@ -4,7 +4,7 @@ ghost use Prim.Native.Nat.{_≤_};
 ghost use lib.ListN.{length};
 ghost use Rattle.kinds.specs.ChoiceForms.{choice-of, choice-image, choice-of-image, choice-text, choice-of-text, choice-from, slash-at};
 use super::Choice;
-use crate::decimal::read_decimal;
+use decimals::read_decimal;
 use crate::kind::Kind;
 use std::alloc::AllocError;
 

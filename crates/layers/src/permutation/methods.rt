@@ -1,7 +1,7 @@
 // Making a permutation from a list, and looking up a place in it.
 ghost use mathlib.Core.Path.{_≡_};
 ghost use lib.ListN.{length};
-ghost use Rattle.layers.specs.Permutations.{times, each-once, kept-list};
+ghost use Rattle.layers.specs.Permutations.{times, each-once, kept-list, Permutes};
 ghost use Rattle.layers.specs.Permuting.{named, permuted-place};
 use super::MAX_PERMUTED;
 use super::Permutation;
@@ -34,7 +34,8 @@ fn names_each_once(list: &[usize]) -> bool
 impl Permutation {
     // The permutation that the list is, or the one of no register if it is none.
     pub fn new(list: &[usize]) -> Permutation
-        ensures { λ r. ⌜ named r ≡ kept-list (now (list .entry)) ⌝ }
+        ensures value { λ r. ⌜ named r ≡ kept-list (now (list .entry)) ⌝ }
+        ensures permutes { λ r. ⌜ Permutes (named r) ⌝ }
     {
         let mut places = [0; MAX_PERMUTED];
         let count = list.len();

@@ -1,4 +1,4 @@
-// Making a record from fields, and reading its parts.
+// Making a record from fields, and reading them back.
 ghost use mathlib.Core.Path.{_≡_};
 ghost use Rattle.std.specs.declared.option.Option.the-variants.{None, Some};
 ghost use Rattle.registers.specs.Lawful.{Lawful};
@@ -64,29 +64,5 @@ impl<V: Copy> Record<V> {
             tag: self.tag,
             value: self.value,
         }
-    }
-
-    pub fn round(&self) -> u32
-        ensures { λ r. ⌜ r ≡ now (self .entry) .round ⌝ }
-    {
-        self.round
-    }
-
-    pub fn accepted(&self) -> u32
-        ensures { λ r. ⌜ r ≡ now (self .entry) .accepted ⌝ }
-    {
-        self.accepted
-    }
-
-    pub fn tag(&self) -> Tag
-        ensures { λ r. ⌜ r ≡ now (self .entry) .tag ⌝ }
-    {
-        self.tag
-    }
-
-    pub fn value(&self) -> Option<V>
-        ensures { λ r. ⌜ r ≡ now (self .entry) .value ⌝ }
-    {
-        self.value
     }
 }

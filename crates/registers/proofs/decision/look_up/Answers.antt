@@ -23,14 +23,15 @@ pub returns-in-Dec : need.returns-in-Dec
 returns-in-Dec g c =
     let cs = g .B·ReadBank .cells (c .args .bank .now) in
     let within : c .loop-i .i < length cs = omega arith in
-    let l = looked-decided cs (c .loop-i .i) within (c .loop-i .inv .1) (c .in-Continue-record .record) (sym (c .read .ensures) ∙ ap numbered (c .in-Continue-record .was tt)) (sym (c .in-Dec .ensures tt)) in
-    record { value = ap Ok (c .value .ensures) ∙ sym (c .loop-i .inv .0 ∙ l .0); first = subst (λ v. Looked cs (Ok v)) (sym (c .value .ensures)) (l .1) }
+    let l = looked-decided cs (c .loop-i .i) within (c .loop-i .inv .1) (c .in-Continue-record .record) (sym (c .read .ensures) ∙ ap numbered (c .in-Continue-record .was tt)) (sym (ap (λ f. f .tag) (c .fields-fields .ensures .value)) ∙ c .in-Dec .is) in
+    let same = ap (λ f. f .value) (c .fields-fields .ensures .value) in
+    record { value = ap Ok same ∙ sym (c .loop-i .inv .0 ∙ l .0); first = subst (λ v. Looked cs (Ok v)) (sym same) (l .1) }
 
 pub loop-i-again : need.loop-i-again
 loop-i-again g c =
     let cs = g .B·ReadBank .cells (c .args .bank .now) in
     let within : c .loop-i .i < length cs = omega arith in
-    let l = looked-on cs (c .loop-i .i) within (c .loop-i .inv .1) (c .in-Continue-record .record) (sym (c .read .ensures) ∙ ap numbered (c .in-Continue-record .was tt)) (λ e. c .in-rest .not-Dec (c .tag .ensures ∙ e)) in
+    let l = looked-on cs (c .loop-i .i) within (c .loop-i .inv .1) (c .in-Continue-record .record) (sym (c .read .ensures) ∙ ap numbered (c .in-Continue-record .was tt)) (λ e. c .in-rest .not-Dec (ap (λ f. f .tag) (c .fields-fields .ensures .value) ∙ e)) in
     (c .loop-i .inv .0 ∙ l .0, l .1)
 
 pub returns : need.returns

@@ -21,8 +21,8 @@ use Rattle.std.proofs.shelf.Numerals.{Numerals, numerals-by-value, tells-allDig
 use Rattle.std.proofs.shelf.Tests.{and-parts, and-from, both-ways, cases-bool, cases-eq, cond-true, cond-false, false≢true, lt-ltb, ltb-true}
 use Rattle.std.proofs.shelf.Text.{utf8-from-ascii}
 use Rattle.std.proofs.shelf.Ways.{tells}
-use Rattle.kinds.specs.Decimals.{begins, read-decimal}
-use Rattle.kinds.proofs.Apart.{none-some}
+use Rattle.decimals.specs.Decimals.{begins, read-decimal}
+use Rattle.decimals.proofs.Apart.{none-some}
 
 own : Numerals (λ ds. allDigits ds ≡ true) (value 10)
 own = numerals-by-value _ tells-allDigits

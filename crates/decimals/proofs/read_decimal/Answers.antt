@@ -6,9 +6,9 @@ use Rattle.std.specs.Reads.{ReadsUnsigned}
 use Rattle.std.specs.Written.{decimal}
 use Rattle.std.specs.declared.option.Option.{Option}
 use Rattle.std.specs.declared.option.Option.the-variants.{Some}
-use Rattle.kinds.specs.Decimals.{read-decimal}
-use Rattle.kinds.proofs.DecimalLaws.{only-decimal, back-decimal, parsed, not-text, not-begun}
-use Rattle.kinds.proofs.decimal.read_decimal.Needs as need
+use Rattle.decimals.specs.Decimals.{read-decimal}
+use Rattle.decimals.proofs.DecimalLaws.{only-decimal, back-decimal, parsed, not-text, not-begun}
+use Rattle.decimals.proofs.read_decimal.Needs as need
 
 only : (ds : List ℕ) (r : Option ℕ) → r ≡ read-decimal ds → (n : ℕ) → r ≡ Some n → ds ≡ decimal n
 only ds r e n some = only-decimal ds n (sym e ∙ some)

@@ -3,7 +3,7 @@ ghost use mathlib.Core.Path.{_≡_};
 ghost use Prim.Native.Nat.{ℕ, _^_, _<_};
 ghost use Rattle.std.specs.Written.{decimal};
 ghost use Rattle.std.specs.declared.option.Option.the-variants.{Some};
-ghost use Rattle.kinds.specs.Decimals.{begins, read-decimal};
+ghost use Rattle.decimals.specs.Decimals.{begins, read-decimal};
 
 // Whether `text` begins as a number does: it is 0, or its first digit is another.
 fn begins_well(text: &[u8]) -> bool
