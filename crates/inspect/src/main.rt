@@ -2,7 +2,7 @@
 use kinds::batch::Batch;
 use kinds::batch::BatchKind;
 use kinds::choice::Choice;
-use kinds::choice::methods::ChoiceKind;
+use kinds::choice::ChoiceKind;
 use report::request::KindName;
 use report::request::Request;
 use report::view::view;

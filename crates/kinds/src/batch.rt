@@ -1,8 +1,8 @@
 // A batch of payments, by its number.
 ghost use mathlib.Core.Path.{_≡_};
 ghost use Rattle.kinds.specs.BatchForms.{batch, batch-image, batch-of-image, batch-text, batch-of-text};
-use decimals::read_decimal;
 use super::kind::Kind;
+use decimals::read_decimal;
 use std::alloc::AllocError;
 
 // The first byte of each image.

@@ -136,7 +136,7 @@ permutes xs few once =
       once = λ j low high. let back : j - 1 + 1 ≡ j = omega arith in ap (λ k. times k xs) (sym back) ∙ eqb-true (times (j - 1 + 1) xs) 1 (all-at (length xs) (j - 1) (λ k. eqb (times (k + 1) xs) 1) once (omega arith));
       low = named-low xs once;
       high = named-high xs once;
-      apart = named-distinct xs once
+      apart = named-distinct xs once;
     }
 
 -- a permutation of at most eight registers that is copied to the front of the places

@@ -86,7 +86,14 @@ pub(crate) fn register_line<K: Kind>(
             let fields = item.fields();
             let value = value_text(heap, fields.value)?;
             let tag = tag_word(fields.tag);
-            record_row(heap, number, tag, fields.round, fields.accepted, value.as_str())
+            record_row(
+                heap,
+                number,
+                tag,
+                fields.round,
+                fields.accepted,
+                value.as_str(),
+            )
         }
         Err(refusal) => refusal_row(heap, number, refusal.number()),
     }

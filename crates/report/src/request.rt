@@ -3,20 +3,20 @@ ghost use mathlib.Core.Path.{_≡_};
 ghost use Rattle.report.specs.Requests.{kind-of, request-of, window-request-of};
 use decimals::read_decimal;
 
-#[derive(Clone, Copy, PartialEq, Eq, Debug)]
+#[derive(Clone, Copy)]
 pub enum KindName {
     Batch,
     Choice,
 }
 
 // The registers from `first` on, `count` of them.
-#[derive(Clone, Copy, PartialEq, Eq, Debug)]
+#[derive(Clone, Copy)]
 pub struct Span {
     pub first: usize,
     pub count: usize,
 }
 
-#[derive(Clone, Copy, PartialEq, Eq, Debug)]
+#[derive(Clone, Copy)]
 pub struct Request {
     pub kind: KindName,
     pub span: Option<Span>,

@@ -4,8 +4,8 @@ ghost use Prim.Native.Nat.{_≤_};
 ghost use lib.ListN.{length};
 ghost use Rattle.kinds.specs.ChoiceForms.{choice-of, choice-image, choice-of-image, choice-text, choice-of-text, choice-from, slash-at};
 use super::Choice;
-use decimals::read_decimal;
 use crate::kind::Kind;
+use decimals::read_decimal;
 use std::alloc::AllocError;
 
 const LAST_REGION: u8 = 95;

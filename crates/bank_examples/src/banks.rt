@@ -47,9 +47,34 @@ fn write_at_the_edges<B: WriteBank<Value = Batch>>(bank: &mut B) -> Result<(), F
 }
 
 fn only_block_128_changed(bytes: &[u8]) -> Result<(), Fail> {
-    let block = [0x44u8, 0, 0, 0, 0, 0, 0, 1, 0, 0, 0, 1, 0x42, 0, 0, 0, 0, 0, 0, 9];
+    let block = [
+        0x44u8,
+        0,
+        0,
+        0,
+        0,
+        0,
+        0,
+        1,
+        0,
+        0,
+        0,
+        1,
+        0x42,
+        0,
+        0,
+        0,
+        0,
+        0,
+        0,
+        9,
+    ];
     for (i, byte) in bytes.iter().enumerate() {
-        let want = if 2540 <= i && i < 2560 { block[i - 2540] } else { 0x4E };
+        let want = if 2540 <= i && i < 2560 {
+            block[i - 2540]
+        } else {
+            0x4E
+        };
         check_eq(*byte, want)?;
     }
     Ok(())
@@ -77,12 +102,26 @@ fn records_hold_128_registers_and_no_more() -> Result<(), Fail> {
     Ok(())
 }
 
+fn image_size(bytes: &[u8], len: usize) -> usize {
+    if len > bytes.len() {
+        return 0;
+    }
+    ImageBank::<Batch>::new(&bytes[0..len]).size()
+}
+
 #[test]
 fn a_part_of_a_block_is_no_register(rt: LibcRuntime) -> Result<(), Fail> {
     let bytes = vec![in rt.alloc(); 0u8; 2599]?;
-    for (len, size) in [(0usize, 0usize), (19, 0), (20, 1), (59, 2), (2559, 127), (2599, 128)] {
-        check(len <= bytes.len())?;
-        check_eq(ImageBank::<Batch>::new(&bytes[0..len]).size(), size)?;
+    let bytes = bytes.as_slice();
+    for (len, size) in [
+        (0usize, 0usize),
+        (19, 0),
+        (20, 1),
+        (59, 2),
+        (2559, 127),
+        (2599, 128),
+    ] {
+        check_eq(image_size(bytes, len), size)?;
     }
     Ok(())
 }

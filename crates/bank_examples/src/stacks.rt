@@ -70,9 +70,34 @@ fn the_same_stack_on_bytes_with_choices() -> Result<(), Fail> {
     let inner = Window::new(BlockBank::<Choice>::new(&mut bytes), 3, 3);
     let mut stack = Window::new(Permuted::new(inner, &order), 1, 2);
     decide_in_second(&mut stack, choice)?;
-    let block = [0x44, 0, 0, 0, 0, 0, 0, 1, 0, 0, 0, 1, 0x43, 7, 0, 2, 0, 0, 0, 0];
+    let block = [
+        0x44,
+        0,
+        0,
+        0,
+        0,
+        0,
+        0,
+        1,
+        0,
+        0,
+        0,
+        1,
+        0x43,
+        7,
+        0,
+        2,
+        0,
+        0,
+        0,
+        0,
+    ];
     for (i, byte) in bytes.iter().enumerate() {
-        let want = if 40 <= i && i < 60 { block[i - 40] } else { 0x4E };
+        let want = if 40 <= i && i < 60 {
+            block[i - 40]
+        } else {
+            0x4E
+        };
         check_eq(*byte, want)?;
     }
     Ok(())
@@ -91,7 +116,10 @@ fn only_permutations_of_the_bank_below_have_registers() -> Result<(), Fail> {
     for (i, list) in lists.iter().enumerate() {
         check_eq(permuted_size(list, 2), if i == 0 { 2 } else { 0 })?;
     }
-    check_eq((permuted_size(&[2, 1], 1), permuted_size(&[2, 1], 3)), (0, 0))?;
+    check_eq(
+        (permuted_size(&[2, 1], 1), permuted_size(&[2, 1], 3)),
+        (0, 0),
+    )?;
     check_eq(permuted_size(&[], 0), 0)?;
     check_eq(permuted_size(&[8, 7, 6, 5, 4, 3, 2, 1], 8), 8)?;
     check_eq(permuted_size(&[9, 8, 7, 6, 5, 4, 3, 2, 1], 9), 0)
