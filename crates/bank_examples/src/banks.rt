@@ -1,13 +1,13 @@
 // Banks on caller's memory: at most 128 registers, and nothing beyond them is touched.
+use batches::batch::Batch;
+use batches::batch::BatchDebug;
+use batches::batch::BatchKind;
+use batches::batch::BatchPartialEq;
 use blocks::block_bank::BlockBank;
 use blocks::block_bank::BlockBankRead;
 use blocks::block_bank::BlockBankWrite;
 use blocks::image_bank::ImageBank;
 use blocks::image_bank::ImageBankRead;
-use kinds::batch::Batch;
-use kinds::batch::BatchDebug;
-use kinds::batch::BatchKind;
-use kinds::batch::BatchPartialEq;
 use record_bank::RecordBank;
 use record_bank::RecordBankRead;
 use record_bank::RecordBankWrite;

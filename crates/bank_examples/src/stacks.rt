@@ -1,13 +1,13 @@
 // Layers on layers: a window on a permutation on a window, on records and on bytes, with both kinds.
+use batches::batch::Batch;
+use batches::batch::BatchDebug;
+use batches::batch::BatchKind;
+use batches::batch::BatchPartialEq;
 use blocks::block_bank::BlockBank;
 use blocks::block_bank::BlockBankRead;
 use blocks::block_bank::BlockBankWrite;
-use kinds::batch::Batch;
-use kinds::batch::BatchDebug;
-use kinds::batch::BatchKind;
-use kinds::batch::BatchPartialEq;
-use kinds::choice::Choice;
-use kinds::choice::ChoiceKind;
+use choices::choice::Choice;
+use choices::choice::ChoiceKind;
 use layers::permutation::Permutation;
 use layers::permuted::Permuted;
 use layers::permuted::PermutedRead;

@@ -1,13 +1,12 @@
 -- The cells of a list of bytes, as a bank on it reads and writes them.
-use mathlib.Core.Path.{_≡_, refl, sym, ap, _∙_}
-use mathlib.Core.List.{List, map, _++_}
+use mathlib.Core.Path.{_≡_, sym, ap, _∙_}
+use mathlib.Core.List.{List, _++_}
 use mathlib.Core.Logic.{_⊎_, inl, inr}
-use Prim.Native.Nat.{ℕ, _+_, _*_, _-_, _/_, _<_, _≤_, min}
+use Prim.Native.Nat.{ℕ, _+_, _*_, _-_, _<_, _≤_}
 use native.Mathlib.Omega.{arith}
 use lib.ListN.{length, getD, set, take, drop, length-set, length-take, length-drop}
 use lib.Seq.{getD-set-same, getD-set-other}
-use borrow.Rule.Slice.PartMut.{putMid, postOf, midOf, same-len-mid}
-use Rattle.std.specs.Iters.{counting}
+use borrow.Rule.Slice.PartMut.{putMid, midOf, same-len-mid}
 use Rattle.std.proofs.shelf.Counted.{length-map-counting, getD-map-counting}
 use Rattle.std.proofs.shelf.Lists.{ext-getD, drop-drop}
 use Rattle.std.proofs.shelf.Parts.{between-is, between-putMid, drop-putMid, take-putMid-below}

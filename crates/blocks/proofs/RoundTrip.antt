@@ -2,11 +2,10 @@
 use mathlib.Core.Path.{_≡_, refl, sym, ap, _∙_}
 use mathlib.Core.Bool.{Bool, true, false, cond, true≢false}
 use mathlib.Core.List.{List}
-use Prim.Native.Nat.{ℕ, _≤_, _<_, _^_}
+use Prim.Native.Nat.{ℕ}
 use native.Mathlib.Omega.{arith}
 use lib.ListN.{length, getD, take, drop}
 use Rattle.std.proofs.shelf.Tests.{cond-true}
-use Rattle.std.specs.Options.{isSome}
 use Rattle.std.specs.declared.option.Option.{Option}
 use Rattle.std.specs.declared.option.Option.the-variants.{None, Some}
 use Rattle.decimals.proofs.Apart.{none-some}
@@ -17,7 +16,7 @@ use Rattle.registers.specs.declared.tag.Tag.the-variants.{None as Untagged, Pro
 use Rattle.registers.specs.declared.record.Record.{Record}
 use Rattle.registers.specs.declared.record.Fields.{Fields}
 use Rattle.registers.specs.Lawful.{is-lawful}
-use Rattle.registers.specs.Records.{with-fields, made, fields-of}
+use Rattle.registers.specs.Records.{with-fields, made}
 use Rattle.registers.specs.Tags.{tag-byte, tag-of}
 use Rattle.registers.proofs.Making.{made-with, made-fields, lawful, lawful-from}
 use Rattle.blocks.specs.Layout.{is-laid, word-at, all-zero}

@@ -1,12 +1,12 @@
 // The worked bytes of blocks, and the images and texts of both kinds at their limits.
+use batches::batch::Batch;
+use batches::batch::BatchDebug;
+use batches::batch::BatchKind;
+use batches::batch::BatchPartialEq;
 use blocks::block::decode;
 use blocks::block::encode;
-use kinds::batch::Batch;
-use kinds::batch::BatchDebug;
-use kinds::batch::BatchKind;
-use kinds::batch::BatchPartialEq;
-use kinds::choice::Choice;
-use kinds::choice::ChoiceKind;
+use choices::choice::Choice;
+use choices::choice::ChoiceKind;
 use kinds::kind::Kind;
 use registers::record::Fields;
 use registers::record::Record;

@@ -1,8 +1,8 @@
 // What the report says of a box, and what arguments ask for.
-use kinds::batch::Batch;
-use kinds::batch::BatchKind;
-use kinds::choice::Choice;
-use kinds::choice::ChoiceKind;
+use batches::batch::Batch;
+use batches::batch::BatchKind;
+use choices::choice::Choice;
+use choices::choice::ChoiceKind;
 use kinds::kind::Kind;
 use report::request::KindName;
 use report::request::Request;

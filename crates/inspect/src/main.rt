@@ -1,23 +1,31 @@
 // Shows what is in a box: reads its image from standard input and prints a line for each register and the decision.
-use kinds::batch::Batch;
-use kinds::batch::BatchKind;
-use kinds::choice::Choice;
-use kinds::choice::ChoiceKind;
+use batches::batch::Batch;
+use batches::batch::BatchKind;
+use choices::choice::Choice;
+use choices::choice::ChoiceKind;
 use report::request::KindName;
 use report::request::Request;
 use report::view::view;
 use std::alloc::AllocError;
 use std::alloc::Global;
 use std::env;
-use std::error::AnyError;
 use std::io;
 use std::io::Read;
 
 // 128 blocks of 20 bytes: what comes after them belongs to no register.
 const IMAGE_LEN: u64 = 2560;
 
-const USAGE: &str = "usage: inspect KIND [FIRST COUNT] < IMAGE\n\
-    KIND is B for batch numbers or C for choices; FIRST and COUNT are decimal numbers up to 18446744073709551615.";
+const USAGE: &str =
+    "usage: inspect KIND [FIRST COUNT] < IMAGE, where KIND is B for batch numbers or C for choices, and FIRST and COUNT are decimal numbers up to 18446744073709551615";
+
+// Why nothing, or not all, was shown.
+#[derive(Drop)]
+enum Failure {
+    Arguments,
+    Input(io::Error),
+    Memory,
+    Output(io::Error),
+}
 
 fn read_words(words: &[String]) -> Option<Request> {
     match words {
@@ -26,6 +34,19 @@ fn read_words(words: &[String]) -> Option<Request> {
             Request::window(kind.as_bytes(), first.as_bytes(), count.as_bytes())
         }
         _ => None,
+    }
+}
+
+fn read_request(rt: &LibcRuntime) -> Result<Request, Failure> {
+    let Ok(words) = env::args(rt) else {
+        return Err(Failure::Memory);
+    };
+    let Ok(words) = words.collect::<Vec<String>>(rt.alloc()) else {
+        return Err(Failure::Memory);
+    };
+    match read_words(words.as_slice()) {
+        None => Err(Failure::Arguments),
+        Some(request) => Ok(request),
     }
 }
 
@@ -42,22 +63,39 @@ fn show(heap: Global, request: Request, image: &[u8]) -> Result<String, AllocErr
     }
 }
 
-fn run(rt: &LibcRuntime, request: Request) -> Result<(), AnyError> {
-    let image = read_image(rt)?;
-    let text = show(rt.alloc(), request, image.as_slice())?;
-    rt.print(text.as_str())?;
-    Ok(())
+fn run(rt: &LibcRuntime) -> Result<(), Failure> {
+    let request = read_request(rt)?;
+    let image = match read_image(rt) {
+        Ok(image) => image,
+        Err(why) => return Err(Failure::Input(why)),
+    };
+    let Ok(text) = show(rt.alloc(), request, image.as_slice()) else {
+        return Err(Failure::Memory);
+    };
+    match rt.print(text.as_str()) {
+        Ok(()) => Ok(()),
+        Err(why) => Err(Failure::Output(why)),
+    }
 }
 
-fn main(rt: LibcRuntime) -> Result<(), AnyError> {
-    let words = env::args(&rt)?.collect::<Vec<String>>(rt.alloc())?;
-    let Some(request) = read_words(words.as_slice()) else {
-        eprintln!(rt, "{USAGE}")?;
-        return Err("wrong arguments".into());
-    };
-    let done = run(&rt, request);
-    if let Err(why) = &done {
-        eprintln!(rt, "inspect: {why}")?;
+fn tell(rt: &LibcRuntime, failure: &Failure) -> io::Result<()> {
+    match failure {
+        Failure::Arguments => eprintln!(rt, "{USAGE}"),
+        Failure::Input(why) => {
+            eprintln!(
+                rt,
+                "inspect: cannot read the image from standard input: {why}"
+            )
+        }
+        Failure::Memory => eprintln!(rt, "inspect: there is not enough memory"),
+        Failure::Output(why) => eprintln!(rt, "inspect: cannot write to standard output: {why}"),
+    }
+}
+
+fn main(rt: LibcRuntime) -> Result<(), Failure> {
+    let done = run(&rt);
+    if let Err(failure) = &done {
+        let _ = tell(&rt, failure);
     }
     done
 }

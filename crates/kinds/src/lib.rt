@@ -1,4 +1,2 @@
-// The kinds of value that a pay run can settle on: each has an image of eight bytes, and a text.
-pub mod batch;
-pub mod choice;
+// What a kind of value has: an image of eight bytes and a text, each of which gives the value back.
 pub mod kind;

@@ -1,6 +1,6 @@
 -- A list that names each of as many registers as it is long exactly once names only those, and none at two places.
 use mathlib.Core.Path.{_≡_, refl, sym, ap, subst, _∙_}
-use mathlib.Core.Bool.{Bool, true, false, cond}
+use mathlib.Core.Bool.{true, cond}
 use mathlib.Core.List.{List, [], _∷_, _++_}
 use mathlib.Core.Logic.{_⊎_, inl, inr}
 use Prim.Native.Nat.{ℕ, zero, suc, _+_, _-_, _≤_, _<_}
@@ -9,8 +9,7 @@ use lib.Dec.{leb, eqb}
 use lib.ListN.{length, getD, take, drop, length-take, length-drop}
 use lib.Seq.{getD-take, getD-drop, take-append-seam}
 use Rattle.std.proofs.shelf.Sums.{sumBy-cons, sumBy-take-drop, getD-le-sumBy}
-use Rattle.std.proofs.shelf.Tests.{and-parts, and-from, leb-true, le-leb, eqb-true, eqb-false, eq-eqb, ne-eqb, cases-lt, cases-eq, cases-order, cond-true, cond-false}
-use Rattle.std.specs.shelf.Lists.{sumBy}
+use Rattle.std.proofs.shelf.Tests.{and-parts, and-from, leb-true, le-leb, eqb-true, eq-eqb, ne-eqb, cases-lt, cases-eq, cases-order, cond-true, cond-false}
 use Rattle.layers.specs.Permutations.{max-permuted, times, all-below, each-once, is-permutation, kept-list, Permutes}
 use Rattle.layers.specs.declared.permutation.Permutation.{Permutation}
 use Rattle.layers.specs.Permuting.{named}

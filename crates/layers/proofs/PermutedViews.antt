@@ -1,6 +1,6 @@
 -- The cells that a permutation shows, and those that it does not.
-use mathlib.Core.Path.{_≡_, refl, sym, ap, _∙_}
-use mathlib.Core.Bool.{Bool, true, false, cond, _&&_}
+use mathlib.Core.Path.{_≡_, sym, ap, _∙_}
+use mathlib.Core.Bool.{Bool, true, false, _&&_}
 use mathlib.Core.List.{List, [], map}
 use mathlib.Core.Logic.{_⊎_, inl, inr, _≢_}
 use Prim.Native.Nat.{ℕ, _-_, _≤_, _<_}
@@ -10,7 +10,6 @@ use lib.ListN.{length, getD, set, take, length-set, length-map}
 use lib.Seq.{getD-take, getD-set-same, getD-set-other}
 use Rattle.std.proofs.shelf.Lists.{ext-getD, getD-map}
 use Rattle.std.proofs.shelf.Tests.{eqb-true, eq-eqb, and-from, and-parts, and-cases, cases-bool, cases-eq, cases-lt, cond-true, cond-false}
-use Rattle.std.specs.declared.option.Option.{Option}
 use Rattle.std.specs.declared.option.Option.the-variants.{None, Some}
 use Rattle.registers.specs.Cells.{Cell, stands}
 use Rattle.layers.specs.Permutations.{each-once}

@@ -1,5 +1,5 @@
 -- Cells in the order that a permutation names: the place below of each register, the cells, and what is not shown.
-use mathlib.Core.Bool.{Bool, _&&_, cond}
+use mathlib.Core.Bool.{_&&_, cond}
 use mathlib.Core.List.{List, [], map}
 use Prim.Native.Nat.{ℕ, _-_}
 use lib.Dec.{eqb}

@@ -1,6 +1,5 @@
 -- The cells of a list of records, as the bank on it reads and writes them.
-use mathlib.Core.Path.{_≡_, refl, sym, ap, _∙_}
-use mathlib.Core.Bool.{true}
+use mathlib.Core.Path.{_≡_, sym, ap, _∙_}
 use mathlib.Core.List.{List, map}
 use mathlib.Core.Logic.{_⊎_}
 use Prim.Native.Nat.{ℕ, _<_, _≤_, _-_, min}
@@ -9,9 +8,7 @@ use lib.ListN.{length, getD, set, take, drop, length-take, length-map}
 use lib.Seq.{getD-take, take-set-lt, drop-set-lt}
 use Rattle.std.proofs.shelf.Lists.{map-set, getD-map}
 use Rattle.std.proofs.shelf.Tests.{cond-true, cond-false}
-use Rattle.std.specs.declared.option.Option.{Option}
 use Rattle.std.specs.declared.option.Option.the-variants.{None, Some}
-use Rattle.std.specs.declared.result.Result.{Result}
 use Rattle.std.specs.declared.result.Result.the-variants.{Ok, Err}
 use Rattle.registers.specs.declared.record.Fields.{Fields}
 use Rattle.registers.specs.declared.record.Record.{Record}

@@ -1,17 +1,16 @@
 -- What a bank answers and holds after a write, at a register that stands and at one that does not.
-use mathlib.Core.Path.{_≡_, refl, sym, ap, _∙_}
-use mathlib.Core.Bool.{Bool, true, false, cond, _&&_}
+use mathlib.Core.Path.{_≡_, refl, ap, _∙_}
+use mathlib.Core.Bool.{true, false}
 use mathlib.Core.List.{List}
 use mathlib.Core.Logic.{_⊎_, inl, inr}
 use Prim.Native.Nat.{ℕ, _+_, _-_, _≤_, _<_}
 use native.Mathlib.Omega.{arith}
 use lib.Dec.{leb}
-use lib.ListN.{length, getD, set, length-set}
-use Rattle.std.proofs.shelf.Tests.{le-leb, lt-leb, leb-true, and-from, and-left, and-right, and-parts, cases-bool, cond-true, cond-false}
+use lib.ListN.{length, getD, length-set}
+use Rattle.std.proofs.shelf.Tests.{le-leb, lt-leb, and-from, and-left, and-right, cases-bool, cond-true, cond-false}
 use Rattle.std.specs.declared.option.Option.{Option}
 use Rattle.std.specs.declared.option.Option.the-variants.{None, Some}
-use Rattle.std.specs.declared.result.Result.{Result}
-use Rattle.std.specs.declared.result.Result.the-variants.{Ok, Err}
+use Rattle.std.specs.declared.result.Result.the-variants.{Err}
 use Rattle.registers.specs.declared.record.Fields.{Fields}
 use Rattle.registers.specs.declared.record.Record.{Record}
 use Rattle.registers.specs.declared.refusal.Refusal.the-variants.{NoRegister}

@@ -1,10 +1,10 @@
 -- Lawful fields make a record, and a record is known by its fields.
 use mathlib.Core.Path.{_≡_, refl, sym, ap, _∙_}
 use mathlib.Core.Bool.{Bool, true, false, _&&_, not, Bool-set, true≢false}
-use Prim.Native.Nat.{ℕ, _≤_}
+use Prim.Native.Nat.{ℕ}
 use native.Mathlib.Omega.{arith}
 use lib.Dec.{leb, eqb}
-use Rattle.std.proofs.shelf.Tests.{and-parts, and-from, leb-true, le-leb, eqb-true, eq-eqb}
+use Rattle.std.proofs.shelf.Tests.{and-parts, leb-true, eqb-true}
 use Rattle.std.specs.Options.{isSome}
 use Rattle.std.specs.declared.option.Option.{Option}
 use Rattle.std.specs.declared.option.Option.the-variants.{None, Some}
@@ -25,13 +25,6 @@ module _ {V : Type 0} where
 
   pub made-back : (r : Record V) → made (fields-of r) ≡ Some r
   made-back r = made-with (fields-of r) (r .lawful)
-
-  made-if-none : (f : Fields V) (b : Bool) (p : fits f ≡ b) → fits f ≡ false → made-if f b p ≡ None
-  made-if-none f true p e = absurd (true≢false (sym p ∙ e))
-  made-if-none f false p e = refl
-
-  pub made-none : (f : Fields V) → fits f ≡ false → made f ≡ None
-  made-none f e = made-if-none f (fits f) refl e
 
   made-if-fields : (f : Fields V) (b : Bool) (p : fits f ≡ b) (r : Record V) → made-if f b p ≡ Some r → fields-of r ≡ f
   made-if-fields f true p r e = let same : with-fields f p ≡ r = cc in ap fields-of (sym same)

@@ -9,7 +9,6 @@ use Rattle.std.specs.declared.result.Result.{Result}
 use Rattle.std.specs.declared.result.Result.the-variants.{Ok, Err}
 use Rattle.registers.specs.declared.tag.Tag.{Tag}
 use Rattle.registers.specs.declared.tag.Tag.the-variants.{None as Untagged, Pro, Dec}
-use Rattle.registers.specs.declared.record.Record.{Record}
 use Rattle.registers.specs.declared.refusal.Refusal.the-variants.{Unreadable}
 use Rattle.registers.specs.Cells.{Cell}
 use Rattle.registers.specs.Refusals.{refusal-number}

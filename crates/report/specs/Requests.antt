@@ -10,7 +10,6 @@ use Rattle.decimals.specs.Decimals.{read-decimal}
 use Rattle.report.specs.declared.request.KindName.{KindName}
 use Rattle.report.specs.declared.request.KindName.the-variants.{Batch, Choice}
 use Rattle.report.specs.declared.request.Request.{Request}
-use Rattle.report.specs.declared.request.Span.{Span}
 
 -- the text is this one byte
 abbrev pub is-byte : ℕ → List ℕ → Bool

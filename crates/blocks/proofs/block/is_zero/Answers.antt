@@ -1,4 +1,4 @@
-use mathlib.Core.Path.{_≡_, sym, _∙_}
+use mathlib.Core.Path.{sym, _∙_}
 use native.Mathlib.Omega.{arith}
 use Rattle.blocks.proofs.Places.{zero-more, zero-fails, zero-all}
 use Rattle.blocks.proofs.block.is_zero.Needs as need

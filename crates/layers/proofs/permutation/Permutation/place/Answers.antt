@@ -1,10 +1,8 @@
 use borrow.Author.Needs.{needs}
-use mathlib.Core.Path.{_≡_, sym, ap, _∙_}
-use Prim.Native.Nat.{_≤_}
+use mathlib.Core.Path.{_≡_}
 use native.Mathlib.Omega.{arith}
 use lib.ListN.{length}
 use Rattle.layers.specs.Permuting.{named}
-use Rattle.layers.proofs.Naming.{few-named}
 use Rattle.layers.proofs.PermutedViews.{placed}
 use Rattle.layers.proofs.permutation.Permutation.place.Needs as need
 

@@ -1,6 +1,5 @@
-use mathlib.Core.Path.{_≡_, refl, sym, ap, _∙_}
+use mathlib.Core.Path.{refl, sym, ap, _∙_}
 use lib.ListN.{length}
-use Rattle.registers.specs.Cells.{write-cells}
 use Rattle.registers.proofs.Answering.{writes-answer-none, writes-cells-none, write-length}
 use Rattle.layers.specs.Below.{write-below}
 use Rattle.layers.specs.Permuting.{named, permuted-place, permuted-cells, permuted-outside}

@@ -1,5 +1,4 @@
-use mathlib.Core.Path.{_≡_, sym, ap, _∙_}
-use lib.ListN.{length}
+use mathlib.Core.Path.{sym, ap, _∙_}
 use Rattle.registers.proofs.Answering.{reads-none}
 use Rattle.layers.specs.Windows.{window-place, window-cells}
 use Rattle.layers.proofs.Views.{shows-read}
