@@ -4,10 +4,10 @@ use batches::batch::BatchKind;
 use choices::choice::Choice;
 use choices::choice::ChoiceKind;
 use kinds::kind::Kind;
-use report::request::KindName;
-use report::request::Request;
-use report::request::Span;
 use report::view::view;
+use requests::KindName;
+use requests::Request;
+use requests::Span;
 use std::alloc::Global;
 use std::test::*;
 

@@ -6,7 +6,7 @@ use Rattle.std.specs.declared.option.Option.the-variants.{None, Some}
 use Rattle.registers.specs.Cells.{Cell}
 use Rattle.layers.specs.Windows.{window-cells}
 use Rattle.blocks.specs.BlockCells.{block-cells}
-use Rattle.report.specs.declared.request.Span.{Span}
+use Rattle.requests.specs.declared.Span.{Span}
 
 abbrev pub viewed-cells : {V : Type 0} → (List ℕ → Option V) → List ℕ → Option Span → List (Cell V)
 viewed-cells ofImage bs None = block-cells ofImage bs

@@ -7,7 +7,6 @@ ghost use Rattle.report.specs.Views.{viewed-cells};
 use super::lines::decision_line;
 use super::lines::register_line;
 use super::lines::size_line;
-use super::request::Span;
 use blocks::image_bank::ImageBank;
 use blocks::image_bank::ImageBankRead;
 use kinds::kind::Kind;
@@ -15,6 +14,7 @@ use layers::window::Window;
 use layers::window::WindowRead;
 use registers::bank::ReadBank;
 use registers::decision::look_up;
+use requests::Span;
 use std::alloc::AllocError;
 use std::alloc::Global;
 

@@ -7,9 +7,9 @@ use lib.ListN.{length, getD}
 use Rattle.std.specs.declared.option.Option.{Option}
 use Rattle.std.specs.declared.option.Option.the-variants.{None, Some}
 use Rattle.decimals.specs.Decimals.{read-decimal}
-use Rattle.report.specs.declared.request.KindName.{KindName}
-use Rattle.report.specs.declared.request.KindName.the-variants.{Batch, Choice}
-use Rattle.report.specs.declared.request.Request.{Request}
+use Rattle.requests.specs.declared.KindName.{KindName}
+use Rattle.requests.specs.declared.KindName.the-variants.{Batch, Choice}
+use Rattle.requests.specs.declared.Request.{Request}
 
 -- the text is this one byte
 abbrev pub is-byte : ℕ → List ℕ → Bool

@@ -1,6 +1,6 @@
 // What the reader asks to see: the kind of the values, and the whole box or a window of it.
 ghost use mathlib.Core.Path.{_≡_};
-ghost use Rattle.report.specs.Requests.{kind-of, request-of, window-request-of};
+ghost use Rattle.requests.specs.Requests.{kind-of, request-of, window-request-of};
 use decimals::read_decimal;
 
 #[derive(Clone, Copy)]
