@@ -1,4 +1,8 @@
 // Banks on caller's memory: at most 128 registers, and nothing beyond them is touched.
+ghost use mathlib.Core.Path.{_≡_};
+ghost use Rattle.batches.specs.BatchForms.{batch-image};
+ghost use Rattle.blocks.specs.BlockCells.{write-bytes};
+ghost use Rattle.record_bank.specs.RecordCells.{write-records};
 use batches::batch::Batch;
 use batches::batch::BatchDebug;
 use batches::batch::BatchKind;
@@ -29,6 +33,32 @@ fn decided(round: u32) -> Fields<Batch> {
         tag: Tag::Dec,
         value: Some(Batch::new(9)),
     }
+}
+
+// A bank that is made and written inside a call leaves in the caller's memory just what it says.
+fn write_records(records: &mut [Record<Batch>], register: usize, fields: &Fields<Batch>)
+    ensures { λ _. ⌜ now (records .exit) ≡ write-records (now (records .entry)) register (now (fields .entry)) ⌝ }
+{
+    let _ = RecordBank::new(records).write(register, fields);
+}
+
+fn write_bytes(bytes: &mut [u8], register: usize, fields: &Fields<Batch>)
+    ensures { λ _. ⌜ now (bytes .exit) ≡ write-bytes batch-image (now (bytes .entry)) register (now (fields .entry)) ⌝ }
+{
+    let _ = BlockBank::<Batch>::new(bytes).write(register, fields);
+}
+
+#[test]
+fn a_caller_finds_what_was_written() -> Result<(), Fail> {
+    let mut records = [Record::<Batch>::blank(); 2];
+    write_records(&mut records, 2, &decided(1));
+    check_eq(records[1].fields().round, 1)?;
+    let mut bytes = [0u8; 41];
+    write_bytes(&mut bytes, 2, &decided(1));
+    check_eq(
+        (bytes[19], bytes[20], bytes[39], bytes[40]),
+        (0, 0x44, 9, 0),
+    )
 }
 
 // A bank of 128 registers is written at its edges, and at last in register 128.

@@ -1,4 +1,6 @@
 -- A bank on a list of bytes: its cells, one for each whole block, and the bytes after a write.
+use base.Fml.{GName}
+use denote.Ref.{RefT, name, now}
 use mathlib.Core.Bool.{cond}
 use mathlib.Core.List.{List, _++_, map}
 use Prim.Native.Nat.{ℕ, _+_, _-_, _*_, _/_, min}
@@ -36,3 +38,11 @@ module _ {V : Type 0} where
 -- the bytes that belong to no register: a tail shorter than a block, and what lies past the last register
 abbrev pub rest-bytes : List ℕ → List ℕ
 rest-bytes bs = drop (block-len * block-count (length bs)) bs
+
+-- what no write touches: which loan the bytes are, and the bytes that belong to no register
+pub record BlockRest : Type 0 where
+  pub loan : GName
+  pub beyond : List ℕ
+
+abbrev pub block-rest : RefT (List ℕ) → BlockRest
+block-rest bs = record { loan = name bs; beyond = rest-bytes (now bs) }

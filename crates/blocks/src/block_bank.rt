@@ -1,11 +1,10 @@
 // A bank on the caller's bytes.
+ghost use denote.Ref.{name};
 ghost use mathlib.Core.Path.{_≡_};
-ghost use mathlib.Core.List.{List};
-ghost use Prim.Native.Nat.{ℕ};
 ghost use lib.ListN.{length};
 ghost use Rattle.registers.specs.Cells.{write-answer, write-cells};
 ghost use Rattle.registers.specs.Refusals.{numbered};
-ghost use Rattle.blocks.specs.BlockCells.{block-cells, write-bytes, rest-bytes};
+ghost use Rattle.blocks.specs.BlockCells.{block-cells, write-bytes, BlockRest, block-rest};
 use super::bytes::count;
 use super::bytes::fetch;
 use super::bytes::store;
@@ -25,8 +24,10 @@ pub struct BlockBank<'a, K> {
 }
 
 impl<'a, K: Kind> BlockBank<'a, K> {
+    // The bank holds the caller's loan itself (`lent`), so what it holds last is what the caller finds.
     pub fn new(bytes: &'a mut [u8]) -> BlockBank<'a, K>
-        ensures { λ r. ⌜ r .bytes .now ≡ now (bytes .entry) ⌝ }
+        ensures value { λ r. ⌜ r .bytes .now ≡ now (bytes .entry) ⌝ }
+        ensures lent { λ r. ⌜ name (r .bytes) ≡ name (bytes .entry) ⌝ }
     {
         BlockBank {
             bytes,
@@ -50,15 +51,16 @@ pub impl<'a, K: Kind> ReadBank for BlockBank<'a, K> as BlockBankRead {
 }
 
 pub impl<'a, K: Kind> WriteBank for BlockBank<'a, K> as BlockBankWrite {
-    ghost Rest = { List ℕ };
+    ghost Rest = { BlockRest };
 
-    ghost rest = { λ b. rest-bytes (b .bytes .now) };
+    ghost rest = { λ b. block-rest (b .bytes) };
 
     fn write(&mut self, register: usize, fields: &Fields<K>) -> Result<(), Refusal>
         ensures answer { λ r. ⌜ numbered r ≡ write-answer (block-cells (K·Kind .ofImage) (now (self .entry) .bytes .now)) register (now (fields .entry)) ⌝ }
         ensures after { λ _. ⌜ block-cells (K·Kind .ofImage) (now (self .exit) .bytes .now) ≡ write-cells (block-cells (K·Kind .ofImage) (now (self .entry) .bytes .now)) register (now (fields .entry)) ⌝ }
         ensures size { λ _. ⌜ length (block-cells (K·Kind .ofImage) (now (self .exit) .bytes .now)) ≡ length (block-cells (K·Kind .ofImage) (now (self .entry) .bytes .now)) ⌝ }
-        ensures rest { λ _. ⌜ rest-bytes (now (self .exit) .bytes .now) ≡ rest-bytes (now (self .entry) .bytes .now) ⌝ }
+        ensures rest { λ _. ⌜ block-rest (now (self .exit) .bytes) ≡ block-rest (now (self .entry) .bytes) ⌝ }
+        ensures lent { λ _. ⌜ name (now (self .exit) .bytes) ≡ name (now (self .entry) .bytes) ⌝ }
         ensures bytes { λ _. ⌜ now (self .exit) .bytes .now ≡ write-bytes (K·Kind .imageOf) (now (self .entry) .bytes .now) register (now (fields .entry)) ⌝ }
     {
         store(self.bytes, register, fields)

@@ -1,11 +1,10 @@
 // A bank on the caller's records.
+ghost use denote.Ref.{name};
 ghost use mathlib.Core.Path.{_≡_};
-ghost use mathlib.Core.List.{List};
 ghost use lib.ListN.{length, drop};
-ghost use Rattle.registers.specs.declared.record.Record.{Record};
 ghost use Rattle.registers.specs.Refusals.{numbered};
 ghost use Rattle.registers.specs.Cells.{read-answer, write-answer, write-cells, max-registers};
-ghost use Rattle.record_bank.specs.RecordCells.{record-cells, write-records};
+ghost use Rattle.record_bank.specs.RecordCells.{record-cells, write-records, RecordRest, record-rest};
 use registers::bank::MAX_REGISTERS;
 use registers::bank::ReadBank;
 use registers::bank::WriteBank;
@@ -20,8 +19,10 @@ pub struct RecordBank<'a, V> {
 }
 
 impl<'a, V: Copy> RecordBank<'a, V> {
+    // The bank holds the caller's loan itself (`lent`), so what it holds last is what the caller finds.
     pub fn new(records: &'a mut [Record<V>]) -> RecordBank<'a, V>
-        ensures { λ r. ⌜ r .records .now ≡ now (records .entry) ⌝ }
+        ensures value { λ r. ⌜ r .records .now ≡ now (records .entry) ⌝ }
+        ensures lent { λ r. ⌜ name (r .records) ≡ name (records .entry) ⌝ }
     {
         RecordBank { records }
     }
@@ -86,15 +87,16 @@ pub impl<'a, V: Copy> ReadBank for RecordBank<'a, V> as RecordBankRead {
 }
 
 pub impl<'a, V: Copy> WriteBank for RecordBank<'a, V> as RecordBankWrite {
-    ghost Rest = { List (Record V) };
+    ghost Rest = { RecordRest V };
 
-    ghost rest = { λ b. drop max-registers (b .records .now) };
+    ghost rest = { λ b. record-rest (b .records) };
 
     fn write(&mut self, register: usize, fields: &Fields<V>) -> Result<(), Refusal>
         ensures answer { λ r. ⌜ numbered r ≡ write-answer (record-cells (now (self .entry) .records .now)) register (now (fields .entry)) ⌝ }
         ensures after { λ _. ⌜ record-cells (now (self .exit) .records .now) ≡ write-cells (record-cells (now (self .entry) .records .now)) register (now (fields .entry)) ⌝ }
         ensures size { λ _. ⌜ length (record-cells (now (self .exit) .records .now)) ≡ length (record-cells (now (self .entry) .records .now)) ⌝ }
-        ensures rest { λ _. ⌜ drop max-registers (now (self .exit) .records .now) ≡ drop max-registers (now (self .entry) .records .now) ⌝ }
+        ensures rest { λ _. ⌜ record-rest (now (self .exit) .records) ≡ record-rest (now (self .entry) .records) ⌝ }
+        ensures lent { λ _. ⌜ name (now (self .exit) .records) ≡ name (now (self .entry) .records) ⌝ }
         ensures records { λ _. ⌜ now (self .exit) .records .now ≡ write-records (now (self .entry) .records .now) register (now (fields .entry)) ⌝ }
     {
         store(self.records, register, fields)
