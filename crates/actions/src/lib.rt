@@ -1,4 +1,6 @@
 // What a worker does in one step: it reads one register or writes its own.
+#![tactic(auto)]
+
 ghost use Rattle.std.specs.Prelude.{◌≡◌};
 ghost use Rattle.registers.specs.declared.tag.Tag.TheVariants.{Pro, Dec};
 ghost use Rattle.registers.specs.Cells.{read_answer};

@@ -1,4 +1,6 @@
 // The lines that answer the lines of a script.
+#![tactic(auto)]
+
 ghost use Rattle.std.specs.Prelude.{◌≡◌, [], IfOk, string_bytes, decimal};
 ghost use Rattle.kinds.specs.Texts.{value_text};
 ghost use Rattle.answers.specs.Answers.{letter_text, number_text, worker_text, start_row, start_text, answer_word, answer_row, refusal_text, accepted_row, answer_text};

@@ -1,4 +1,6 @@
 // Numbers in decimal: no sign, and no leading zero except in 0 itself.
+#![tactic(auto)]
+
 ghost use Rattle.std.specs.Prelude.{◌≡◌, ℕ, ◌^◌, ◌<◌, Some, decimal};
 ghost use Rattle.decimals.specs.Decimals.{begins, read_decimal};
 

@@ -1,4 +1,6 @@
 // Runs a script: reads its lines from standard input, and prints the answer to each.
+#![tactic(auto)]
+
 use answers::answer_line;
 use batches::batch::Batch;
 use blocks::block::BLOCK_LEN;

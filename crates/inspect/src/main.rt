@@ -1,4 +1,6 @@
 // Shows what is in a box: reads its image from standard input and prints a line for each register and the decision.
+#![tactic(auto)]
+
 use batches::batch::Batch;
 use choices::choice::Choice;
 use report::view::view;

@@ -1,4 +1,6 @@
 // A bank on the caller's records.
+#![tactic(auto)]
+
 ghost use Rattle.std.specs.Prelude.{◌≡◌, length, drop};
 ghost use Rattle.registers.specs.Refusals.{numbered};
 ghost use Rattle.registers.specs.Cells.{read_answer, write_answer, write_cells, max_registers};

@@ -34,8 +34,8 @@ pub trait WriteBank: ReadBank {
     // Makes a register hold the record of these fields, and leaves the others. Refuses a number
     // that no register has (1), then fields of no lawful record (2).
     fn write(&mut self, register: usize, fields: &Fields<Self::Value>) -> Result<(), Refusal>
-        ensures answer { numbered result ≡ write_answer (cells self.old) register fields.now }
-        ensures after { cells self.new ≡ write_cells (cells self.old) register fields.now }
-        ensures size { length (cells self.new) ≡ length (cells self.old) }
+        ensures answer { numbered result ≡ write_answer (Self.cells self.old) register fields.now }
+        ensures after { Self.cells self.new ≡ write_cells (Self.cells self.old) register fields.now }
+        ensures size { length (Self.cells self.new) ≡ length (Self.cells self.old) }
         ensures rest { rest self.new ≡ rest self.old };
 }

@@ -10,8 +10,8 @@ use super::tag::Tag;
 // The value of the first register with tag dec, or none. Refuses (3) where an unreadable register
 // comes sooner.
 pub fn look_up<B: ReadBank>(bank: &B) -> Result<Option<B::Value>, Refusal>
-    ensures value { numbered result ≡ shown (cells bank.now) }
-    ensures first { Looked (cells bank.now) (numbered result) }
+    ensures value { numbered result ≡ shown (B.cells bank.now) }
+    ensures first { Looked (B.cells bank.now) (numbered result) }
 {
     for i in 0..bank.size() {
         let record = bank.read(i + 1)?;

@@ -4,6 +4,7 @@ ghost use Rattle.registers.specs.Lawful.{is_lawful};
 
 use super::tag::Tag;
 
+pub mod clone;
 pub mod methods;
 
 // The greatest round, so that a round fits four bytes and a sum of two of them does not wrap.
@@ -17,7 +18,7 @@ pub struct Fields<V> {
     pub value: Option<V>,
 }
 
-#[derive(Clone, Copy)]
+#[derive(Copy)]
 pub struct Record<V> {
     round: u32,
     accepted: u32,

@@ -1,4 +1,6 @@
 // What the reader asks to see: the kind of the values, and the whole box or a window of it.
+#![tactic(auto)]
+
 ghost use Rattle.std.specs.Prelude.{◌≡◌};
 ghost use Rattle.requests.specs.Requests.{kind_of, request_of, window_request_of};
 

@@ -1,4 +1,6 @@
 // Script lines: their fields, what they ask, and why they are refused.
+#![tactic(auto)]
+
 pub mod fields;
 pub mod line;
 pub mod refusal;

@@ -1,4 +1,6 @@
 // One line of a script on an instance: what it asks is done, and its answer line is made.
+#![tactic(auto)]
+
 ghost use Rattle.std.specs.Prelude.{◌≡◌, IfOk, string_bytes};
 ghost use Rattle.calls.specs.CallRefusals.{call_numbered};
 ghost use Rattle.script.specs.Shapes.{asked};

@@ -1,0 +1,15 @@
+// A record is copied as it stands.
+ghost use Rattle.std.specs.Prelude.{◌≡◌, ⊤};
+
+use super::Record;
+use std::alloc::AllocError;
+
+impl<V: Copy> Clone for Record<V> {
+    ghost is_clone = { λ x y. y ≡ x };
+
+    ghost is_infallible = { λ _. ⊤ };
+
+    fn clone(&self) -> Result<Record<V>, AllocError> {
+        Ok(*self)
+    }
+}
