@@ -53,7 +53,8 @@ impl Kind for Batch {
 
     fn append_text(self, out: &mut String) -> Result<(), AllocError> {
         let number = self.number;
-        let text = format!(in out.allocator(); "{number}")?;
+        let alloc = *out.allocator();
+        let text = format!(in alloc; "{number}")?;
         out.push_str(text.as_str())
     }
 

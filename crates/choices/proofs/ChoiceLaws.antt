@@ -1,5 +1,5 @@
 -- Eight bytes, or a text, that read as a choice are its image, or its text, and give it back.
-use Rattle.std.proofs.Common.{◌≡◌, ℕ, ◌+◌, ◌^◌, ◌<◌, ◌≤◌, Bool, true, false, ◌⊎◌, List, ◌∷◌, length, get_or, take, drop, Some, None, decimal, Option, sym, refl, ap, ◌∙◌, inl, inr, true≢false, arith}
+use Rattle.std.proofs.Common.{◌≡◌, ℕ, ◌+◌, ◌^◌, ◌<◌, ◌≤◌, Bool, true, false, ◌⊎◌, List, [], ◌∷◌, length, get_or, take, drop, Some, None, decimal, Option, sym, refl, ap, ◌∙◌, inl, inr, true≢false, arith}
 use mathlib.Core.Bool.{Bool-set}
 use lib.Seq.{take-append_seam, drop-append-add}
 use Rattle.std.proofs.lemmas.List.{drop_all}
@@ -13,7 +13,7 @@ use Rattle.kinds.specs.Words.{bytes16, word16}
 use Rattle.decimals.proofs.Apart.{none_some}
 use Rattle.decimals.proofs.DecimalLaws.{only_decimal, back_decimal, decimal_digits}
 use Rattle.choices.proofs.SlashLaws.{slash_splits, slash_after}
-use Rattle.kinds.proofs.WordLaws.{half_of_bytes, bytes_of_half, eight}
+use Rattle.kinds.proofs.WordLaws.{half_of_bytes, eight}
 
 abbrev kept : (region edition : ℕ) → is_choice region edition ≡ true → Choice
 kept region edition e = record { region = region; edition = edition; lawful = e }
@@ -55,8 +55,8 @@ back_choice_image c =
     let small : c.edition < 2 ^ 16 = grind (arith, nat_tests) in
     ap (choice_of c.region) (half_of_bytes c.edition small) ∙ again c
 
-pub only_choice_image : (xs : List ℕ) → length xs ≡ 8 → get_or xs 2 0 < 256 → get_or xs 3 0 < 256 → (c : Choice) → choice_of_image xs ≡ Some c → xs ≡ choice_image c
-only_choice_image xs long p q c e = by (cases_Bool (is_choice_image xs))
+pub only_choice_image : (xs : List ℕ) → length xs ≡ 8 → bytes16 (word16 (get_or xs 2 0) (get_or xs 3 0)) ≡ get_or xs 2 0 ∷ get_or xs 3 0 ∷ [] → (c : Choice) → choice_of_image xs ≡ Some c → xs ≡ choice_image c
+only_choice_image xs long half c e = by (cases_Bool (is_choice_image xs))
   where
     read : Option Choice
     read = choice_of (get_or xs 1 0) (word16 (get_or xs 2 0) (get_or xs 3 0))
@@ -69,7 +69,7 @@ only_choice_image xs long p q c e = by (cases_Bool (is_choice_image xs))
         let six : get_or xs 6 0 ≡ 0 = grind (arith, nat_tests) in
         let seven : get_or xs 7 0 ≡ 0 = grind (arith, nat_tests) in
         let fields = choice_only (get_or xs 1 0) (word16 (get_or xs 2 0) (get_or xs 3 0)) c (sym (cond-true (is_choice_image xs) read None t) ∙ e) in
-        let edition = ap bytes16 fields.1 ∙ bytes_of_half (get_or xs 2 0) (get_or xs 3 0) p q in
+        let edition = ap bytes16 fields.1 ∙ half in
         let all = eight xs long in
         cc
     by (inr f) = absurd (none_some (sym (cond-false (is_choice_image xs) read None f) ∙ e))

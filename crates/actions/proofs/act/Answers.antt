@@ -20,7 +20,7 @@ pub returns-in-First-default : goal.returns-in-First-default
 returns-in-First-default g c =
     let cells = g.B.ReadBank.cells c.args.bank.now in
     let e = taken_in c.args.state.now cells c.args.hint c.args.proposal _ c.in-First-default.is-0 in
-    let w = c.collect-first.ensures in
+    let w = c.collect_first.ensures in
     record { answer = w.answer ∙ ap (λ a. a.answer) e; state = w.state ∙ ap (λ a. a.state) e; cells = looked_cells c.args.state.now cells _ _ ∙ ap (λ a. a.cells) e; rest = refl }
 
 pub returns-in-Ready-default : goal.returns-in-Ready-default
@@ -34,7 +34,7 @@ pub returns-in-Second-default : goal.returns-in-Second-default
 returns-in-Second-default g c =
     let cells = g.B.ReadBank.cells c.args.bank.now in
     let e = taken_in c.args.state.now cells c.args.hint c.args.proposal _ c.in-Second-default.is-0 in
-    let w = c.collect-second.ensures in
+    let w = c.collect_second.ensures in
     record { answer = w.answer ∙ ap (λ a. a.answer) e; state = w.state ∙ ap (λ a. a.state) e; cells = looked_cells c.args.state.now cells _ _ ∙ ap (λ a. a.cells) e; rest = refl }
 
 pub returns-in-Sure-default : goal.returns-in-Sure-default

@@ -1,5 +1,6 @@
 // How a choice is made and read, with its image and its text.
-ghost use Rattle.std.specs.Prelude.{◌≡◌, ◌≤◌, length};
+ghost use Rattle.std.specs.Prelude.{◌≡◌, ◌≤◌, [], ◌∷◌, length};
+ghost use Rattle.kinds.specs.Words.{bytes16, word16};
 ghost use Rattle.choices.specs.ChoiceForms.{choice_of, choice_image, choice_of_image, choice_text, choice_of_text, choice_from, slash_at};
 
 use super::Choice;
@@ -41,6 +42,14 @@ impl Choice {
     }
 }
 
+// The edition whose bytes these are.
+fn edition_of(high: u8, low: u8) -> u16
+    ensures value { result ≡ word16 high low }
+    ensures bytes { bytes16 result ≡ high ∷ low ∷ [] }
+{
+    u16::from_be_bytes([high, low])
+}
+
 // Where the first slash stands; the length of `text` where there is none.
 fn slash(text: &[u8]) -> usize
     ensures value { result ≡ slash_at text.now }
@@ -80,7 +89,7 @@ impl Kind for Choice {
     fn from_image(image: [u8; 8]) -> Option<Choice> {
         match image {
             [mark, region, a, b, 0, 0, 0, 0] if mark == MARK => {
-                Choice::new(region, u16::from_be_bytes([a, b]))
+                Choice::new(region, edition_of(a, b))
             }
             _ => None,
         }
@@ -89,7 +98,8 @@ impl Kind for Choice {
     fn append_text(self, out: &mut String) -> Result<(), AllocError> {
         let region = self.region;
         let edition = self.edition;
-        let text = format!(in out.allocator(); "{region}/{edition}")?;
+        let alloc = *out.allocator();
+        let text = format!(in alloc; "{region}/{edition}")?;
         out.push_str(text.as_str())
     }
 

@@ -15,7 +15,7 @@ pub returns-in-Ok : goal.returns-in-Ok
 returns-in-Ok c =
     let same = c.in-Ok.ensures.cases.0 in
     let reads = subst (λ t. ParsesUnsigned 64 10 t c.parse.result) same c.parse.ensures.value.0 in
-    let e = c.ok.ensures.value ∙ parsed c.args.text.now c.parse.result (sym c.if-not-begins-well.ensures) reads in
+    let e = c.ok.ensures.value ∙ parsed c.args.text.now c.parse.result (sym c.if-not-begins_well.ensures) reads in
     record { value = e; only = only _ _ e; back = back _ _ e }
 
 pub returns-in-Err : goal.returns-in-Err
@@ -23,7 +23,7 @@ returns-in-Err c =
     let e = not_text c.args.text.now c.in-Err.ensures.cases.0 in
     record { value = e; only = only _ _ e; back = back _ _ e }
 
-pub returns-then-not-begins-well : goal.returns-then-not-begins-well
-returns-then-not-begins-well c =
-    let e = not_begun c.args.text.now (sym c.if-not-begins-well.ensures) in
+pub returns-then-not-begins_well : goal.returns-then-not-begins_well
+returns-then-not-begins_well c =
+    let e = not_begun c.args.text.now (sym c.if-not-begins_well.ensures) in
     record { value = e; only = only _ _ e; back = back _ _ e }

@@ -2,8 +2,8 @@ use Rattle.std.proofs.Common.{◌-◌, ◌<◌, length, arith, rules}
 use Rattle.record_bank.proofs.RecordBanks.{within, record_read}
 use Rattle.record_bank.proofs.fetch.Goals as goal
 
-pub offset-bounds-records-register : goal.offset-bounds-records-register
-offset-bounds-records-register g c =
+pub offset_bounds-records-register : goal.offset_bounds-records-register
+offset_bounds-records-register g c =
     let h : c.args.register - 1 < length c.args.records.now = within c.args.records.now c.args.register (omega arith) (omega arith) in
     search rules
 

@@ -4,8 +4,8 @@ use Rattle.record_bank.proofs.RecordBanks.{within, record_answer, record_written
 use Rattle.registers.proofs.Answering.{out_of_range, writes_answer_none, writes_cells_none}
 use Rattle.record_bank.proofs.store.Goals as goal
 
-pub offset-bounds-records-register : goal.offset-bounds-records-register
-offset-bounds-records-register g c =
+pub offset_bounds-records-register : goal.offset_bounds-records-register
+offset_bounds-records-register g c =
     let h : c.args.register - 1 < length c.args.records.now = within c.args.records.now c.args.register (omega arith) (omega arith) in
     search rules
 

@@ -12,9 +12,9 @@ returns-in-Some g c =
     let r = c.word.result in
     let a = c.word-in-Some.result in
     let v = c.image.result in
-    let whole : is_laid c.args.block.now ≡ true = is_laid_by c.args.block.now c.if-block-ne-BLOCK-LEN.false c.if-block-ne0.false c.if-block-ne0-2.false c.if-block-ne0-3.false in
+    let whole : is_laid c.args.block.now ≡ true = is_laid_by c.args.block.now c.if-block-ne-BLOCK_LEN.false c.if-block-ne0.false c.if-block-ne0-2.false c.if-block-ne0-3.false in
     let known = c.in-Some.ensures.value in
     record {
-      value = c.read-tagged.ensures.value ∙ decodes k.of_image b whole t known r a v c.word.ensures.value c.word-in-Some.ensures.value c.image.ensures;
-      only = λ x e. encodes k.of_image b whole t known r a v k.image_of x (sym c.read-tagged.ensures.value ∙ e) (c.in-Some.ensures.only t refl) c.word.ensures.bytes c.word-in-Some.ensures.bytes c.image.ensures (c.read-tagged.ensures.only x e);
+      value = c.read_tagged.ensures.value ∙ decodes k.of_image b whole t known r a v c.word.ensures.value c.word-in-Some.ensures.value c.image.ensures;
+      only = λ x e. encodes k.of_image b whole t known r a v k.image_of x (sym c.read_tagged.ensures.value ∙ e) (c.in-Some.ensures.only t refl) c.word.ensures.bytes c.word-in-Some.ensures.bytes c.image.ensures (c.read_tagged.ensures.only x e);
     }

@@ -3,9 +3,9 @@ use Rattle.blocks.specs.Layout.{all_zero}
 use Rattle.blocks.proofs.RoundTrip.{untagged, untagged_image}
 use Rattle.blocks.proofs.block.read_tagged.Goals as goal
 
-pub returns-else-not-is-zero : goal.returns-else-not-is-zero
-returns-else-not-is-zero g c =
-    let zero : all_zero c.args.image ≡ true = sym c.if-not-is-zero.ensures in
+pub returns-else-not-is_zero : goal.returns-else-not-is_zero
+returns-else-not-is_zero g c =
+    let zero : all_zero c.args.image ≡ true = sym c.if-not-is_zero.ensures in
     let sized : length c.args.image ≡ 8 = omega arith in
     let k = g.K.Kind in
     record {

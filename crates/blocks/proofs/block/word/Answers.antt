@@ -9,6 +9,6 @@ returns c =
     let b = c.args.block.now in
     let at = c.args.at in
     record {
-      value = c.from-be-bytes.ensures;
-      bytes = ap bytes32 c.from-be-bytes.ensures ∙ bytes_of_word (get_or b at 0) (get_or b (at + 1) 0) (get_or b (at + 2) 0) (get_or b (at + 3) 0) (omega (arith, c.type-inv.block at)) (omega (arith, c.type-inv.block (at + 1))) (omega (arith, c.type-inv.block (at + 2))) (omega (arith, c.type-inv.block (at + 3))) ∙ sym (four_at b at (omega arith));
+      value = c.from_be_bytes.ensures;
+      bytes = ap bytes32 c.from_be_bytes.ensures ∙ bytes_of_word (get_or b at 0) (get_or b (at + 1) 0) (get_or b (at + 2) 0) (get_or b (at + 3) 0) (omega (arith, c.type_inv.block at)) (omega (arith, c.type_inv.block (at + 1))) (omega (arith, c.type_inv.block (at + 2))) (omega (arith, c.type_inv.block (at + 3))) ∙ sym (four_at b at (omega arith));
     }

@@ -4,11 +4,11 @@ use Rattle.engine.specs.Rows.{states}
 use Rattle.engine.proofs.Counting.{one_is, count_fits, count_more, count_all}
 use Rattle.engine.proofs.instance.tally.Goals as goal
 
-pub overflow-add-decided : goal.overflow-add-decided
-overflow-add-decided g c = let h = count_fits _ c.loop-worker.worker-index _ _ c.loop-worker.invariant.0 c.from-decided.ensures in search rules
+pub overflow_add-decided : goal.overflow_add-decided
+overflow_add-decided g c = let h = count_fits _ c.loop-worker.worker-index _ _ c.loop-worker.invariant.0 c.from-decided.ensures in search rules
 
-pub overflow-add-crashed : goal.overflow-add-crashed
-overflow-add-crashed g c = let h = count_fits _ c.loop-worker.worker-index _ _ c.loop-worker.invariant.1 c.from-crashed.ensures in search rules
+pub overflow_add-crashed : goal.overflow_add-crashed
+overflow_add-crashed g c = let h = count_fits _ c.loop-worker.worker-index _ _ c.loop-worker.invariant.1 c.from-crashed.ensures in search rules
 
 pub loop-worker-preserved : goal.loop-worker-preserved
 loop-worker-preserved g c =
@@ -17,7 +17,7 @@ loop-worker-preserved g c =
     let w = c.worker-item.result in
     let left = states (drop (k + 1) ws) in
     let decided = c.from-decided.ensures ∙ one_is _ ∙ ap one_if c.has_decided.ensures in
-    let crashed = c.from-crashed.ensures ∙ one_is _ ∙ ap one_if c.has-crashed.ensures in (
+    let crashed = c.from-crashed.ensures ∙ one_is _ ∙ ap one_if c.has_crashed.ensures in (
       count_fits _ k _ _ c.loop-worker.invariant.0 c.from-decided.ensures,
       count_fits _ k _ _ c.loop-worker.invariant.1 c.from-crashed.ensures,
       ap (λ b. c.loop-worker.decided + b + count_of (λ s. has_decided s.phase) left) decided ∙ count_more (λ s. has_decided s.phase) ws k w c.worker-item.is c.loop-worker-test.true _ c.loop-worker.invariant.2,

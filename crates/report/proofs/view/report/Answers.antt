@@ -12,14 +12,14 @@ loop-i-preserved g c =
     let i = c.loop-i.i in
     let line = string_bytes c.in_ok-line.line in
     let is = c.in_ok-line.ensures ∙ ap (register_line t (i + 1)) c.read.ensures in
-    let grown = pushed c.as-str.result.now refl c.in_ok-push-str.was c.push-str.ensures.bytes ∙ ap (λ l. string_bytes c.loop-i.out ++ l) c.as-str.ensures.value in
-    line_more t cs i (string_bytes c.loop-i.out) (string_bytes c.push-str.new.self) line (size_row (length cs) ++ register_lines t 1 cs) (omega arith) c.loop-i.invariant is grown
+    let grown = pushed c.as_str.result.now refl c.in_ok-push_str.was c.push_str.ensures.bytes ∙ ap (λ l. string_bytes c.loop-i.out ++ l) c.as_str.ensures.value in
+    line_more t cs i (string_bytes c.loop-i.out) (string_bytes c.push_str.new.self) line (size_row (length cs) ++ register_lines t 1 cs) (omega arith) c.loop-i.invariant is grown
 
 pub returns : goal.returns
 returns g c =
     let cs = g.B.ReadBank.cells c.args.bank.now in
     let t = g.K.Kind.text_of in
     let written = line_all t cs c.loop-i.i (string_bytes c.loop-i.out) (size_row (length cs) ++ register_lines t 1 cs) (omega arith) c.loop-i.invariant in
-    let is = c.as-str-2.ensures.value ∙ c.in_ok-last.ensures ∙ ap (decision_line t) c.look-up.ensures.value in
-    let grown = pushed c.as-str-2.result.now refl c.in_ok-push-str-2.was c.push-str-2.ensures.bytes in
-    grown ∙ ap (λ l. l ++ c.as-str-2.result.now) written ∙ ap (λ l. (size_row (length cs) ++ register_lines t 1 cs) ++ l) is ∙ append_assoc (size_row (length cs)) (register_lines t 1 cs) (decision_line t (shown cs))
+    let is = c.as_str-2.ensures.value ∙ c.in_ok-last.ensures ∙ ap (decision_line t) c.look_up.ensures.value in
+    let grown = pushed c.as_str-2.result.now refl c.in_ok-push_str-2.was c.push_str-2.ensures.bytes in
+    grown ∙ ap (λ l. l ++ c.as_str-2.result.now) written ∙ ap (λ l. (size_row (length cs) ++ register_lines t 1 cs) ++ l) is ∙ append_assoc (size_row (length cs)) (register_lines t 1 cs) (decision_line t (shown cs))

@@ -5,8 +5,8 @@ use Rattle.script.specs.Fields.{Parted, part}
 use Rattle.script.proofs.FieldLaws.{parted}
 use Rattle.script.proofs.fields.field_at.Goals as goal
 
-pub slice-bounds-result-end : goal.slice-bounds-result-end
-slice-bounds-result-end c =
+pub slice_bounds-result-end : goal.slice_bounds-result-end
+slice_bounds-result-end c =
     let inside : c.args.start ≤ length c.args.line.now = omega arith in
     let p = parted c.args.line.now c.args.start inside in
     search (rules, p.ordered, p.within)
@@ -14,7 +14,7 @@ slice-bounds-result-end c =
 pub returns : goal.returns
 returns c =
     let inside : c.args.start ≤ length c.args.line.now = omega arith in
-    let e = c.end-of-field-end.ensures in
+    let e = c.end_of_field-end.ensures in
     record {
       value = ap (λ end. Some (record { start = c.args.start; end = end; bytes = part c.args.line.now c.args.start end })) e ∙ sym (cond-true _ _ _ (le-leb _ _ inside));
       part = refl;

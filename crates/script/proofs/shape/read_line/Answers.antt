@@ -10,6 +10,6 @@ returns-in-44 c =
     let least : 2 ≤ length c.args.line.now = search rules in
     let second : get_or c.args.line.now 1 0 ≡ 44 = search rules in
     record {
-      value = lined _ _ most least second c.read-letter.ensures.value;
-      place = subst (λ at. IfSome c.read-letter.result (Lies at)) (behind_rest c.args.line.ref_ptr c.args.line.now) c.read-letter.ensures.place;
+      value = lined _ _ most least second c.read_letter.ensures.value;
+      place = subst (λ at. IfSome c.read_letter.result (Lies at)) (behind_rest c.args.line.ref_ptr c.args.line.now) c.read_letter.ensures.place;
     }

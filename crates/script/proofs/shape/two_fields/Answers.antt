@@ -9,6 +9,6 @@ returns-then-second-text c =
     let first = placed c.in-Some.first in
     let at-start = c.in-Some.ensures.value in
     record {
-      value = two_found c.args.text.now first (placed c.in-Some-field-at.second) at-start c.in-Some-field-at.ensures.value c.if-second-text.true;
-      place = c.in-Some-field-at.ensures.part ∙ ap (λ end. part_place c.args.text.ref_ptr (end + 1)) (found_end c.args.text.now 0 first at-start);
+      value = two_found c.args.text.now first (placed c.in-Some-field_at.second) at-start c.in-Some-field_at.ensures.value c.if-second-text.true;
+      place = c.in-Some-field_at.ensures.part ∙ ap (λ end. part_place c.args.text.ref_ptr (end + 1)) (found_end c.args.text.now 0 first at-start);
     }

@@ -4,8 +4,8 @@ use Rattle.std.proofs.lemmas.Bool.Decides.{nat_tests}
 use Rattle.choices.proofs.ChoiceLaws.{choice_some, choice_none}
 use Rattle.choices.proofs.choice.Choice.new.Goals as goal
 
-pub returns-then-edition-ge-FIRST-EDITION : goal.returns-then-edition-ge-FIRST-EDITION
-returns-then-edition-ge-FIRST-EDITION c = choice_some c.args.region c.args.edition _
+pub returns-then-edition-ge-FIRST_EDITION : goal.returns-then-edition-ge-FIRST_EDITION
+returns-then-edition-ge-FIRST_EDITION c = choice_some c.args.region c.args.edition _
 
-pub returns-else-region-le-LAST-REGION : goal.returns-else-region-le-LAST-REGION
-returns-else-region-le-LAST-REGION c = choice_none c.args.region c.args.edition (grind (arith, nat_tests))
+pub returns-else-region-le-LAST_REGION : goal.returns-else-region-le-LAST_REGION
+returns-else-region-le-LAST_REGION c = choice_none c.args.region c.args.edition (grind (arith, nat_tests))

@@ -10,6 +10,6 @@ returns-then-at-text c = record { value = no_slash c.args.text.now (omega arith)
 
 pub returns : goal.returns
 returns c =
-    let rest = between_to_end c.args.text.now (c.slash_at.result + 1) (length c.args.text.now) (omega arith) in
+    let rest = between_to_end c.args.text.now (c.slash-at.result + 1) (length c.args.text.now) (omega arith) in
     let value : c.choose.result ≡ choice_of_text c.args.text.now = search rules in
     record { value = value; only = λ v e. only_choice_text c.args.text.now (omega arith) v (sym value ∙ e) }
