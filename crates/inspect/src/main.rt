@@ -7,6 +7,7 @@ use report::view::view;
 use requests::{KindName, Request};
 use std::alloc::{AllocError, Global};
 use std::io::Read;
+use std::process::ExitCode;
 use std::{env, io};
 
 // 128 blocks of 20 bytes: what comes after them belongs to no register.
@@ -86,10 +87,12 @@ fn tell(rt: &HostRuntime, failure: &Failure) -> io::Result<()> {
     }
 }
 
-fn main(rt: HostRuntime) -> Result<(), Failure> {
-    let done = run(&rt);
-    if let Err(failure) = &done {
-        let _ = tell(&rt, failure);
+fn main(rt: HostRuntime) -> ExitCode {
+    match run(&rt) {
+        Ok(()) => ExitCode::SUCCESS,
+        Err(failure) => {
+            let _ = tell(&rt, &failure);
+            ExitCode::FAILURE
+        }
     }
-    done
 }
