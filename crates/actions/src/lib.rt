@@ -29,7 +29,7 @@ fn store<V: Copy, B: WriteBank<Value = V>>(
     ensures answer { call_numbered result ≡ (stored state.old (B.ReadBank.cells bank.old) fields.now next outcome).answer }
     ensures state { state.new ≡ (stored state.old (B.ReadBank.cells bank.old) fields.now next outcome).state }
     ensures cells { B.ReadBank.cells bank.new ≡ (stored state.old (B.ReadBank.cells bank.old) fields.now next outcome).cells }
-    ensures rest { rest bank.new ≡ rest bank.old }
+    ensures rest { B.rest bank.new ≡ B.rest bank.old }
 {
     let register = state.number;
     match bank.write(register, fields) {
@@ -56,7 +56,7 @@ fn begin<V: Copy, B: WriteBank<Value = V>>(
     ensures answer { call_numbered result ≡ (begun state.old (B.ReadBank.cells bank.old)).answer }
     ensures state { state.new ≡ (begun state.old (B.ReadBank.cells bank.old)).state }
     ensures cells { B.ReadBank.cells bank.new ≡ (begun state.old (B.ReadBank.cells bank.old)).cells }
-    ensures rest { rest bank.new ≡ rest bank.old }
+    ensures rest { B.rest bank.new ≡ B.rest bank.old }
 {
     let Some(round) = next_round(state.seen, state.number, state.total) else {
         return Err(CallRefusal::RoundLimit);
@@ -86,7 +86,7 @@ fn put<V: Copy, B: WriteBank<Value = V>>(
     ensures answer { call_numbered result ≡ (put state.old (B.ReadBank.cells bank.old) candidate).answer }
     ensures state { state.new ≡ (put state.old (B.ReadBank.cells bank.old) candidate).state }
     ensures cells { B.ReadBank.cells bank.new ≡ (put state.old (B.ReadBank.cells bank.old) candidate).cells }
-    ensures rest { rest bank.new ≡ rest bank.old }
+    ensures rest { B.rest bank.new ≡ B.rest bank.old }
 {
     let round = state.own.round;
     let fields = Fields {
@@ -113,7 +113,7 @@ fn decide<V: Copy, B: WriteBank<Value = V>>(
     ensures answer { call_numbered result ≡ (decided state.old (B.ReadBank.cells bank.old) candidate).answer }
     ensures state { state.new ≡ (decided state.old (B.ReadBank.cells bank.old) candidate).state }
     ensures cells { B.ReadBank.cells bank.new ≡ (decided state.old (B.ReadBank.cells bank.old) candidate).cells }
-    ensures rest { rest bank.new ≡ rest bank.old }
+    ensures rest { B.rest bank.new ≡ B.rest bank.old }
 {
     let round = state.own.round;
     let fields = Fields {
@@ -188,7 +188,7 @@ pub fn act<V: Copy, B: WriteBank<Value = V>>(
     ensures answer { call_numbered result ≡ (taken hint state.old (B.ReadBank.cells bank.old) proposal).answer }
     ensures state { state.new ≡ (taken hint state.old (B.ReadBank.cells bank.old) proposal).state }
     ensures cells { B.ReadBank.cells bank.new ≡ (taken hint state.old (B.ReadBank.cells bank.old) proposal).cells }
-    ensures rest { rest bank.new ≡ rest bank.old }
+    ensures rest { B.rest bank.new ≡ B.rest bank.old }
 {
     match (&state.phase, hint) {
         (Phase::Idle, Hint::Go) => begin(state, bank),

@@ -1,5 +1,5 @@
 -- The states of a row: their number, each of them, and one replaced.
-use Rattle.std.proofs.Common.{◌≡◌, ℕ, zero, suc, ◌-◌, ◌<◌, true, List, [], ◌∷◌, length, get_or, set, Some, sym, refl, ap, subst, arith}
+use Rattle.std.proofs.Common.{◌≡◌, ℕ, zero, suc, ◌<◌, true, List, [], ◌∷◌, length, get_or, set, Some, sym, refl, ap, subst, arith}
 use lib.ListN.{length-map}
 use lib.Seq.{map-set}
 use Rattle.std.specs.List.{slice_get}

@@ -46,7 +46,7 @@ fn renew<V: Copy>(workers: &mut [Worker<V>])
 // Makes every register blank, whatever it held.
 fn clear<V: Copy, B: WriteBank<Value = V>>(bank: &mut B)
     ensures cells { B.ReadBank.cells bank.new ≡ blank_cells (length (B.ReadBank.cells bank.old)) }
-    ensures rest { rest bank.new ≡ rest bank.old }
+    ensures rest { B.rest bank.new ≡ B.rest bank.old }
 {
     let size = bank.size();
     let blank = Record::blank().fields();
@@ -65,7 +65,7 @@ pub fn open<V: Copy, B: WriteBank<Value = V>>(
     ensures answer { call_numbered result ≡ (open_whole (states workers.old) (B.ReadBank.cells bank.old)).answer }
     ensures workers { states workers.new ≡ (open_whole (states workers.old) (B.ReadBank.cells bank.old)).states }
     ensures cells { B.ReadBank.cells bank.new ≡ (open_whole (states workers.old) (B.ReadBank.cells bank.old)).cells }
-    ensures rest { rest bank.new ≡ rest bank.old }
+    ensures rest { B.rest bank.new ≡ B.rest bank.old }
     ensures kept { Kept (call_numbered result) (states workers.old) (states workers.new) (B.ReadBank.cells bank.old) (B.ReadBank.cells bank.new) }
 {
     let size = bank.size();
@@ -111,7 +111,7 @@ pub fn step<V: Copy, B: WriteBank<Value = V>>(
     ensures answer { call_numbered result ≡ (step_whole (states workers.old) (B.ReadBank.cells bank.old) worker hint).answer }
     ensures workers { states workers.new ≡ (step_whole (states workers.old) (B.ReadBank.cells bank.old) worker hint).states }
     ensures cells { B.ReadBank.cells bank.new ≡ (step_whole (states workers.old) (B.ReadBank.cells bank.old) worker hint).cells }
-    ensures rest { rest bank.new ≡ rest bank.old }
+    ensures rest { B.rest bank.new ≡ B.rest bank.old }
     ensures kept { Kept (call_numbered result) (states workers.old) (states workers.new) (B.ReadBank.cells bank.old) (B.ReadBank.cells bank.new) }
     ensures law { StepLaw worker (states workers.old) (states workers.new) (B.ReadBank.cells bank.old) (B.ReadBank.cells bank.new) }
     ensures unreadable { OnlyUnreadable (call_numbered result) (states workers.old) (B.ReadBank.cells bank.old) worker hint }
@@ -136,7 +136,7 @@ pub fn make<V: Copy, B: WriteBank<Value = V>>(
     ensures answer { call_numbered result ≡ (call_whole call (states workers.old) (B.ReadBank.cells bank.old)).answer }
     ensures workers { states workers.new ≡ (call_whole call (states workers.old) (B.ReadBank.cells bank.old)).states }
     ensures cells { B.ReadBank.cells bank.new ≡ (call_whole call (states workers.old) (B.ReadBank.cells bank.old)).cells }
-    ensures rest { rest bank.new ≡ rest bank.old }
+    ensures rest { B.rest bank.new ≡ B.rest bank.old }
     ensures kept { Kept (call_numbered result) (states workers.old) (states workers.new) (B.ReadBank.cells bank.old) (B.ReadBank.cells bank.new) }
 {
     match call {

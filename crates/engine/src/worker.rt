@@ -4,9 +4,10 @@ ghost use Rattle.engine.specs.Sound.{is_sound};
 
 use protocol::state::State;
 
+pub mod clone;
 pub mod methods;
 
-#[derive(Clone, Copy)]
+#[derive(Copy)]
 pub struct Worker<V> {
     state: State<V>,
     ghost sound: { is_sound state ≡ true },

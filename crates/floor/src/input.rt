@@ -29,12 +29,12 @@ fn before_feed(part: &[u8]) -> usize
 }
 
 impl Lines {
-    pub(crate) fn new(heap: Global, input: Stdin) -> Lines {
-        Lines {
-            input: BufReader::new(input),
+    pub(crate) fn new(heap: Global, input: Stdin) -> io::Result<Lines> {
+        Ok(Lines {
+            input: BufReader::new(heap, input)?,
             line: Vec::new(heap),
             number: 0,
-        }
+        })
     }
 
     // The line that was read last, without its line feed.

@@ -20,6 +20,7 @@ use session::{read_opening, reply};
 use std::alloc::{AllocError, Global};
 use std::io;
 use std::io::{BufWriter, Stdout, Write};
+use std::process::ExitCode;
 
 mod input;
 
@@ -170,11 +171,18 @@ fn answer_script(desk: &mut Desk) -> Result<(), Failure> {
     Ok(())
 }
 
-fn run(rt: &HostRuntime) -> Result<(), Failure> {
-    let mut desk = Desk {
+fn new_desk(rt: &HostRuntime) -> io::Result<Desk> {
+    Ok(Desk {
         heap: rt.alloc(),
-        lines: Lines::new(rt.alloc(), rt.stdin()),
-        output: BufWriter::new(rt.stdout()),
+        lines: Lines::new(rt.alloc(), rt.stdin())?,
+        output: BufWriter::new(rt.alloc(), rt.stdout())?,
+    })
+}
+
+fn run(rt: &HostRuntime) -> Result<(), Failure> {
+    // What a desk can lack is memory for its buffers.
+    let Ok(mut desk) = new_desk(rt) else {
+        return Err(Failure::Memory);
     };
     let done = answer_script(&mut desk);
     let written = desk.flush();
@@ -194,10 +202,12 @@ fn tell(rt: &HostRuntime, failure: &Failure) -> io::Result<()> {
     }
 }
 
-fn main(rt: HostRuntime) -> Result<(), Failure> {
-    let done = run(&rt);
-    if let Err(failure) = &done {
-        let _ = tell(&rt, failure);
+fn main(rt: HostRuntime) -> ExitCode {
+    match run(&rt) {
+        Ok(()) => ExitCode::SUCCESS,
+        Err(failure) => {
+            let _ = tell(&rt, &failure);
+            ExitCode::FAILURE
+        }
     }
-    done
 }

@@ -10,7 +10,6 @@ use registers::bank::WriteBank;
 use registers::record::Fields;
 use registers::tag::Tag;
 use std::process::Abort;
-use std::test::Fail;
 
 fn same_fields(a: &Fields<Batch>, b: &Fields<Batch>) -> bool {
     a.round == b.round && a.accepted == b.accepted && a.tag == b.tag && a.value == b.value
@@ -114,14 +113,17 @@ fn refused(
     registers: usize,
     call: Option<Call<Batch>>,
     number: u8,
-) -> Result<(), Fail> {
+    why: &str,
+) {
     let mut after = *row;
     let mut bytes = *image;
     let answer = refusal_on(&mut after, workers, &mut bytes, registers, call);
-    assert_eq!(rt; answer, number);
-    assert!(rt; same_row(&after, row), "the workers are as they were");
-    assert!(rt; bytes == *image, "the bytes are as they were");
-    Ok(())
+    assert_eq!(rt; answer, number, "{why}");
+    assert!(rt;
+        same_row(&after, row),
+        "the workers are as they were: {why}"
+    );
+    assert!(rt; bytes == *image, "the bytes are as they were: {why}");
 }
 
 // The calls of a list, all accepted, on the first two workers and registers.
@@ -137,7 +139,7 @@ fn accepted(
 }
 
 #[test]
-fn sizes_places_and_proposals(rt: HostRuntime) -> Result<(), Fail> {
+fn sizes_places_and_proposals(rt: HostRuntime) {
     let mut row = [Worker::<Batch>::new(); 3];
     let mut bytes = [0u8; 60];
     accepted(&rt, &mut row, &mut bytes, &[None, five(2)]);
@@ -155,32 +157,49 @@ fn sizes_places_and_proposals(rt: HostRuntime) -> Result<(), Fail> {
         (2, 2, five(2), 8),
         (2, 2, go(1), 9),
     ] {
-        refused(&rt, &row, workers, &bytes, registers, call, number)?;
+        refused(
+            &rt,
+            &row,
+            workers,
+            &bytes,
+            registers,
+            call,
+            number,
+            "a size, a place or a proposal",
+        );
     }
-    Ok(())
 }
 
 #[test]
-fn workers_in_another_place(rt: HostRuntime) -> Result<(), Fail> {
+fn workers_in_another_place(rt: HostRuntime) {
     let mut row = [Worker::<Batch>::new(); 3];
     let mut bytes = [0u8; 60];
-    refused(&rt, &row, 2, &bytes, 2, five(1), 6).note("never opened")?;
+    refused(&rt, &row, 2, &bytes, 2, five(1), 6, "never opened");
     accepted(&rt, &mut row, &mut bytes, &[None, five(1), five(2)]);
     let first = row[0];
     row[0] = row[1];
     row[1] = first;
-    refused(&rt, &row, 2, &bytes, 2, five(1), 6).note("swapped")?;
-    refused(&rt, &row, 2, &bytes, 2, go(2), 6).note("swapped")
+    refused(&rt, &row, 2, &bytes, 2, five(1), 6, "swapped");
+    refused(&rt, &row, 2, &bytes, 2, go(2), 6, "swapped");
 }
 
 #[test]
-fn steps_that_cannot_be_taken(rt: HostRuntime) -> Result<(), Fail> {
+fn steps_that_cannot_be_taken(rt: HostRuntime) {
     let mut row = [Worker::<Batch>::new(); 3];
     let mut bytes = [0u8; 60];
     accepted(&rt, &mut row, &mut bytes, &[None, five(1), five(2)]);
     let mut damaged = bytes;
     damaged[0] = 0;
-    refused(&rt, &row, 2, &damaged, 2, wait(1), 12).note("an unreadable register")?;
+    refused(
+        &rt,
+        &row,
+        2,
+        &damaged,
+        2,
+        wait(1),
+        12,
+        "an unreadable register",
+    );
     let highest = Fields {
         round: 1_000_000_000,
         accepted: 0,
@@ -193,7 +212,7 @@ fn steps_that_cannot_be_taken(rt: HostRuntime) -> Result<(), Fail> {
             .is_ok()
     );
     accepted(&rt, &mut row, &mut bytes, &[wait(1), wait(1)]);
-    refused(&rt, &row, 2, &bytes, 2, go(1), 11).note("no higher round")?;
+    refused(&rt, &row, 2, &bytes, 2, go(1), 11, "no higher round");
     accepted(&rt, &mut row, &mut bytes, &[None, five(1)]);
     accepted(
         &rt,
@@ -201,5 +220,5 @@ fn steps_that_cannot_be_taken(rt: HostRuntime) -> Result<(), Fail> {
         &mut bytes,
         &[go(1), go(1), go(1), go(1), go(1), go(1), go(1)],
     );
-    refused(&rt, &row, 2, &bytes, 2, go(1), 10).note("decided")
+    refused(&rt, &row, 2, &bytes, 2, go(1), 10, "decided");
 }

@@ -1,5 +1,5 @@
 -- The fields of a line: what stands between two commas, before the first or after the last.
-use Rattle.std.specs.Prelude.{◌≡◌, ℕ, suc, ◌+◌, ◌-◌, ◌<◌, ◌≤◌, cond, List, [], ◌∷◌, length, drop, Some, None, Option, ◌==◌, ◌≢◌, nat_le, slice_index, slice_range}
+use Rattle.std.specs.Prelude.{◌≡◌, ℕ, suc, ◌+◌, ◌<◌, ◌≤◌, cond, List, [], ◌∷◌, length, drop, Some, None, Option, ◌==◌, ◌≢◌, nat_le, slice_index, slice_range}
 use Rattle.script.specs.declared.fields.Field.{Field}
 
 abbrev pub comma : ℕ

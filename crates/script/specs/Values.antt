@@ -7,7 +7,7 @@ use Rattle.script.specs.Fields.{field_end, part_place}
 -- the value, if the line has one, is at this place in memory
 abbrev pub Lies : ℕ × ℕ → Line → Type 0
 Lies at (Open n k) = Unit {0}
-Lies at (Propose i value) = value.ptr ≡ at
+Lies at (Propose i value) = value.ref_ptr ≡ at
 Lies at (Go i) = Unit {0}
 Lies at (Wait i) = Unit {0}
 Lies at (Leader i leader) = Unit {0}

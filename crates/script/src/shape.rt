@@ -18,7 +18,7 @@ fn read_number(text: &[u8]) -> Option<u8>
 // The two fields of a text, where it has two.
 fn two_fields(text: &[u8]) -> Option<(&[u8], &[u8])>
     ensures value { option_map (λ p. (p.0.now, p.1.now)) result ≡ two_fields text.now }
-    ensures place { IfSome result (λ p. p.1.ptr ≡ behind_comma text.entry.ref_ptr text.now 0) }
+    ensures place { IfSome result (λ p. p.1.ref_ptr ≡ behind_comma text.entry.ref_ptr text.now 0) }
 {
     let Some(first) = field_at(text, 0) else {
         return None;

@@ -27,7 +27,7 @@ fn call<K: Kind, B: WriteBank<Value = K>>(
     ensures answer { result ≡ (asked_whole K.Kind.of_text (asked line.entry) (states workers.old) (B.ReadBank.cells bank.old)).answer }
     ensures workers { states workers.new ≡ (asked_whole K.Kind.of_text (asked line.entry) (states workers.old) (B.ReadBank.cells bank.old)).states }
     ensures cells { B.ReadBank.cells bank.new ≡ (asked_whole K.Kind.of_text (asked line.entry) (states workers.old) (B.ReadBank.cells bank.old)).cells }
-    ensures rest { rest bank.new ≡ rest bank.old }
+    ensures rest { B.rest bank.new ≡ B.rest bank.old }
 {
     match line.call::<K>(workers.len()) {
         Ok(call) => match make(workers, bank, call) {
@@ -63,7 +63,7 @@ pub fn reply<K: Kind, B: WriteBank<Value = K>>(
     ensures text { IfOk result (λ s. string_bytes s ≡ answer_text K.Kind.text_of number (head_line line.now) (line_whole K.Kind.of_text line.now (states workers.old) (B.ReadBank.cells bank.old)).answer) }
     ensures workers { states workers.new ≡ (line_whole K.Kind.of_text line.now (states workers.old) (B.ReadBank.cells bank.old)).states }
     ensures cells { B.ReadBank.cells bank.new ≡ (line_whole K.Kind.of_text line.now (states workers.old) (B.ReadBank.cells bank.old)).cells }
-    ensures rest { rest bank.new ≡ rest bank.old }
+    ensures rest { B.rest bank.new ≡ B.rest bank.old }
 {
     match Line::parse(line) {
         Ok(line) => {

@@ -95,7 +95,7 @@ impl<V: Copy> Worker<V> {
         ensures answer { call_numbered result ≡ (worker_step hint self.old.state number total (B.ReadBank.cells bank.old)).answer }
         ensures state { self.new.state ≡ (worker_step hint self.old.state number total (B.ReadBank.cells bank.old)).state }
         ensures cells { B.ReadBank.cells bank.new ≡ (worker_step hint self.old.state number total (B.ReadBank.cells bank.old)).cells }
-        ensures rest { rest bank.new ≡ rest bank.old }
+        ensures rest { B.rest bank.new ≡ B.rest bank.old }
     {
         if self.state.number != number || self.state.total != total {
             return Err(CallRefusal::Misplaced);

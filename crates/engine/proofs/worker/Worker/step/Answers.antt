@@ -9,7 +9,7 @@ pub invariant_of-self : goal.invariant_of-self
 invariant_of-self g c =
     let s = c.args.self.now.state in
     let fine = taken_fine s (g.B.ReadBank.cells c.args.bank.now) (sound_parts s c.args.self.now.sound) c.args.hint c.in-Some.proposal in
-    (subst (λ z. is_sound z ≡ true) (sym c.act.ensures.state) (sound_from _ fine.sound), tt)
+    record { sound = subst (λ z. is_sound z ≡ true) (sym c.act.ensures.state) (sound_from _ fine.sound) }
 
 pub returns : goal.returns
 returns g c =

@@ -1,0 +1,15 @@
+// A worker is copied as it stands.
+ghost use Rattle.std.specs.Prelude.{◌≡◌, ⊤};
+
+use super::Worker;
+use std::alloc::AllocError;
+
+impl<V: Copy> Clone for Worker<V> {
+    ghost is_clone = { λ x y. y ≡ x };
+
+    ghost is_infallible = { λ _. ⊤ };
+
+    fn clone(&self) -> Result<Worker<V>, AllocError> {
+        Ok(*self)
+    }
+}
