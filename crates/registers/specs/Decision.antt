@@ -16,12 +16,12 @@ module _ {V : Type 0} where
   abbrev pub shown : List (Cell V) → Result (Option V) ℕ
   shown [] = Ok None
   shown (None ∷ cs) = Err (refusal_number Unreadable)
-  shown (Some r ∷ cs) = by_tag r.tag r.value (shown cs)
+  shown (Some r ∷ cs) = by_tag r.fields.tag r.fields.value (shown cs)
 
   -- the register holds a record, with another tag than dec
   abbrev pub Undecided : Cell V → Type 0
   Undecided None = ⊥
-  Undecided (Some r) = r.tag ≡ Dec → ⊥
+  Undecided (Some r) = r.fields.tag ≡ Dec → ⊥
 
   -- each of the first n registers does
   abbrev pub UndecidedBefore : List (Cell V) → ℕ → Type 0
@@ -29,7 +29,7 @@ module _ {V : Type 0} where
 
   abbrev pub DecidedWith : Cell V → V → Type 0
   DecidedWith None v = ⊥
-  DecidedWith (Some r) v = (r.tag ≡ Dec) × (r.value ≡ Some v)
+  DecidedWith (Some r) v = (r.fields.tag ≡ Dec) × (r.fields.value ≡ Some v)
 
   -- what an answer to a look-up says: with a value, that the first register that is not undecided has decided it; with
   -- none, that all registers are undecided; and a refusal is 3, and the first that is not undecided is unreadable

@@ -6,23 +6,23 @@ use Rattle.registers.specs.declared.record.Fields.{Fields}
 use Rattle.registers.specs.declared.record.Record.{Record}
 
 module _ {V : Type 0} where
-  abbrev pub fits : Fields V → Bool
-  fits f = is_lawful f.round f.accepted f.tag f.value
-
   -- the record with the fields f, which are lawful
-  abbrev pub with_fields : (f : Fields V) → fits f ≡ true → Record V
-  with_fields f e = record { round = f.round; accepted = f.accepted; tag = f.tag; value = f.value; lawful = e }
+  abbrev pub with_fields : (f : Fields V) → is_lawful f ≡ true → Record V
+  with_fields f e = record { fields = f; lawful = e }
 
-  abbrev pub made_if : (f : Fields V) (b : Bool) → fits f ≡ b → Option (Record V)
+  abbrev pub made_if : (f : Fields V) (b : Bool) → is_lawful f ≡ b → Option (Record V)
   made_if f true e = Some (with_fields f e)
   made_if f false e = None
 
   -- the record with the fields f, if they are lawful
   abbrev pub made : Fields V → Option (Record V)
-  made f = made_if f (fits f) refl
+  made f = made_if f (is_lawful f) refl
 
   abbrev pub fields_of : Record V → Fields V
-  fields_of r = record { round = r.round; accepted = r.accepted; tag = r.tag; value = r.value }
+  fields_of r = r.fields
+
+  abbrev pub blank_fields : Fields V
+  blank_fields = record { round = 0; accepted = 0; tag = Untagged; value = None }
 
   abbrev pub blank : Record V
-  blank = record { round = 0; accepted = 0; tag = Untagged; value = None; lawful = refl }
+  blank = record { fields = blank_fields; lawful = refl }

@@ -13,9 +13,8 @@ pub fn look_up<B: ReadBank>(bank: &B) -> Result<Option<B::Value>, Refusal>
     ensures value { numbered result ≡ shown (B.cells bank.now) }
     ensures first { Looked (B.cells bank.now) (numbered result) }
 {
-    for i in 0..bank.size() {
-        let record = bank.read(i + 1)?;
-        let fields = record.fields();
+    for register in 1..=bank.size() {
+        let fields = bank.read(register)?.fields();
         if let Tag::Dec = fields.tag {
             return Ok(fields.value);
         }

@@ -10,7 +10,7 @@ pub mod methods;
 // The greatest round, so that a round fits four bytes and a sum of two of them does not wrap.
 pub const MAX_ROUND: u32 = 1_000_000_000;
 
-#[derive(Clone, Copy)]
+#[derive(Clone, Copy, PartialEq, Eq, Debug)]
 pub struct Fields<V> {
     pub round: u32,
     pub accepted: u32,
@@ -18,11 +18,8 @@ pub struct Fields<V> {
     pub value: Option<V>,
 }
 
-#[derive(Copy)]
+#[derive(Copy, PartialEq, Eq, Debug)]
 pub struct Record<V> {
-    round: u32,
-    accepted: u32,
-    tag: Tag,
-    value: Option<V>,
-    ghost lawful: { is_lawful round accepted tag value ≡ true },
+    fields: Fields<V>,
+    ghost lawful: { is_lawful fields ≡ true },
 }

@@ -1,7 +1,5 @@
 // Why a bank refuses a read or a write.
-ghost use Rattle.std.specs.Prelude.{◌≡◌};
-ghost use Rattle.registers.specs.declared.refusal.Refusal.{Refusal};
-ghost use Rattle.registers.specs.Refusals.{refusal_number};
+ghost use Rattle.registers.specs.Refusals.{Numbers};
 
 #[derive(Clone, Copy, PartialEq, Eq, Debug)]
 pub enum Refusal {
@@ -13,13 +11,13 @@ pub enum Refusal {
     Unreadable,
 }
 
-impl Refusal {
-    // The number by which users know the refusal; no two have the same.
-    pub fn number(self) -> u8
-        ensures value { result ≡ refusal_number self }
-        ensures tells { (other : Refusal) → refusal_number other ≡ result → other ≡ self }
-    {
-        match self {
+// The number by which users know the refusal; no two have the same. Contracts compare answers by
+// this number and not by the case: the rules are in numbers, and a case may come to hold more.
+impl From<Refusal> for u8 {
+    ghost from_gives = { Numbers };
+
+    fn from(refusal: Refusal) -> u8 {
+        match refusal {
             Refusal::NoRegister => 1,
             Refusal::Unlawful => 2,
             Refusal::Unreadable => 3,

@@ -1,7 +1,9 @@
-// The tag of a record, and the byte that stands for it in a block.
-ghost use Rattle.std.specs.Prelude.{◌≡◌, Some};
-ghost use Rattle.registers.specs.declared.tag.Tag.{Tag};
-ghost use Rattle.registers.specs.Tags.{tag_byte, tag_of};
+// The tag of a record, the byte that stands for it in a block, and its word.
+ghost use Rattle.std.specs.Prelude.{Some};
+ghost use Rattle.std.specs.Result.{result_ok};
+ghost use Rattle.registers.specs.Tags.{StandsFor, ReadTag, tag_word};
+
+use std::fmt;
 
 #[derive(Clone, Copy, PartialEq, Eq, Debug)]
 pub enum Tag {
@@ -13,28 +15,46 @@ pub enum Tag {
     Dec,
 }
 
-impl Tag {
-    pub fn byte(self) -> u8
-        ensures byte { result ≡ tag_byte self }
-        ensures back { tag_of result ≡ Some self }
-    {
-        match self {
+// A byte that stands for no tag.
+#[derive(Clone, Copy, PartialEq, Eq, Debug)]
+pub struct NoTag;
+
+impl From<Tag> for u8 {
+    ghost from_gives = { StandsFor };
+
+    fn from(tag: Tag) -> u8 {
+        match tag {
             Tag::None => 0x4E,
             Tag::Pro => 0x50,
             Tag::Dec => 0x44,
         }
     }
+}
 
-    // The tag of a byte, if it stands for one.
-    pub fn from_byte(byte: u8) -> Option<Tag>
-        ensures value { result ≡ tag_of byte }
-        ensures only { (t : Tag) → result ≡ Some t → byte ≡ tag_byte t }
-    {
+impl TryFrom<u8> for Tag {
+    type Error = NoTag;
+
+    ghost try_from_gives = { λ byte r. ReadTag byte (result_ok r) };
+
+    fn try_from(byte: u8) -> Result<Tag, NoTag> {
         match byte {
-            0x4E => Some(Tag::None),
-            0x50 => Some(Tag::Pro),
-            0x44 => Some(Tag::Dec),
-            _ => None,
+            0x4E => Ok(Tag::None),
+            0x50 => Ok(Tag::Pro),
+            0x44 => Ok(Tag::Dec),
+            _ => Err(NoTag),
         }
+    }
+}
+
+// The word by which users know the tag.
+impl fmt::Display for Tag {
+    ghost output = { λ tag. Some (tag_word tag) };
+
+    fn fmt<W: fmt::Write>(&self, f: &mut fmt::Formatter<W>) -> fmt::Result {
+        f.write_str(match self {
+            Tag::None => "none",
+            Tag::Pro => "pro",
+            Tag::Dec => "dec",
+        })
     }
 }

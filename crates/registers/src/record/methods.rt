@@ -1,41 +1,35 @@
 // Making a record from fields, and reading them back.
 ghost use Rattle.std.specs.Prelude.{◌≡◌, Some, None};
-ghost use Rattle.registers.specs.Lawful.{Lawful};
+ghost use Rattle.registers.specs.Lawful.{is_lawful, Lawful};
 ghost use Rattle.registers.specs.Records.{made, fields_of, blank};
 
 use super::{Fields, MAX_ROUND, Record};
 use crate::tag::Tag;
 
+fn is_lawful<V: Copy>(fields: &Fields<V>) -> bool
+    ensures { result ≡ is_lawful fields.now }
+{
+    if fields.round > MAX_ROUND || fields.accepted > fields.round {
+        return false;
+    }
+    match (fields.tag, fields.value) {
+        (Tag::None, None) => fields.accepted == 0,
+        (Tag::Pro | Tag::Dec, Some(_)) => fields.accepted > 0,
+        _ => false,
+    }
+}
+
 impl<V: Copy> Record<V> {
     // The record with these fields, or none if they are not lawful.
     pub fn new(fields: Fields<V>) -> Option<Record<V>>
         ensures value { result ≡ made fields }
-        ensures refuses { result ≡ None → Lawful fields.round fields.accepted fields.tag fields.value → ⊥ }
+        ensures refuses { result ≡ None → Lawful fields → ⊥ }
     {
-        if fields.round > MAX_ROUND || fields.accepted > fields.round {
-            return None;
+        if is_lawful(&fields) {
+            Some(Record { fields })
+        } else {
+            None
         }
-        match (fields.tag, fields.value) {
-            (Tag::None, None) => {
-                if fields.accepted != 0 {
-                    return None;
-                }
-            }
-            (Tag::Pro, Some(_)) | (Tag::Dec, Some(_)) => {
-                if fields.accepted == 0 {
-                    return None;
-                }
-            }
-            _ => {
-                return None;
-            }
-        }
-        Some(Record {
-            round: fields.round,
-            accepted: fields.accepted,
-            tag: fields.tag,
-            value: fields.value,
-        })
     }
 
     // What every register holds before the first write.
@@ -43,10 +37,12 @@ impl<V: Copy> Record<V> {
         ensures { result ≡ blank }
     {
         Record {
-            round: 0,
-            accepted: 0,
-            tag: Tag::None,
-            value: None,
+            fields: Fields {
+                round: 0,
+                accepted: 0,
+                tag: Tag::None,
+                value: None,
+            },
         }
     }
 
@@ -54,13 +50,8 @@ impl<V: Copy> Record<V> {
     pub fn fields(&self) -> Fields<V>
         ensures value { result ≡ fields_of self.now }
         ensures back { made result ≡ Some self.now }
-        ensures lawful { Lawful result.round result.accepted result.tag result.value }
+        ensures lawful { Lawful result }
     {
-        Fields {
-            round: self.round,
-            accepted: self.accepted,
-            tag: self.tag,
-            value: self.value,
-        }
+        self.fields
     }
 }

@@ -1,37 +1,43 @@
-use Rattle.std.proofs.Common.{◌<◌, length, Ok, Err, sym, ap, ◌∙◌, subst, arith}
+use Rattle.std.proofs.Common.{◌+◌, ◌-◌, Ok, Err, sym, refl, ap, ◌∙◌, subst, arith}
 use Rattle.std.proofs.lemmas.Result.{err_from_is_err_and}
 use Rattle.registers.specs.Decision.{Looked}
 use Rattle.registers.specs.Refusals.{numbered, refusal_number}
 use Rattle.registers.proofs.Looking.{looked_refusal, looked_decided, looked_on, looked_all}
 use Rattle.registers.proofs.decision.look_up.Goals as goal
+use Rattle.registers.proofs.decision.look_up.Goals.{else-loop-register-test, then-loop-register-test+in_ok-read+in_default+else-register-register-end}
 
-pub returns-in_err-record : goal.returns-in_err-record
-returns-in_err-record g c =
+pub returns-in_err-read : goal.returns-in_err-read
+returns-in_err-read g c =
     let cs = g.B.ReadBank.cells c.args.bank.now in
-    let within : c.loop-i.i < length cs = omega arith in
     let p = err_from_is_err_and c.from_residual.result c.from_residual.ensures.1 in
-    let n = refusal_number c.in_err-record.field-0.0 in
+    let n = refusal_number c.in_err-read.field-0.0 in
     let same = ap numbered (p.1 ∙ ap Err p.2) in
-    let l = looked_refusal cs c.loop-i.i within c.loop-i.invariant.1 n (sym c.read.ensures ∙ ap numbered c.in_err-record.was) in
-    record { value = same ∙ sym (c.loop-i.invariant.0 ∙ l.0); first = subst (Looked cs) (sym same) l.1 }
+    let l = looked_refusal cs c.loop-register.register (omega arith) (omega arith) c.loop-register.invariant.1 n (sym c.read.ensures ∙ ap numbered c.in_err-read.was) in
+    record { value = same ∙ sym (c.loop-register.invariant.0 ∙ l.0); first = subst (Looked cs) (sym same) l.1 }
 
 pub returns-in-Dec : goal.returns-in-Dec
 returns-in-Dec g c =
     let cs = g.B.ReadBank.cells c.args.bank.now in
-    let within : c.loop-i.i < length cs = omega arith in
-    let l = looked_decided cs c.loop-i.i within c.loop-i.invariant.1 c.in_ok-record.record (sym c.read.ensures ∙ ap numbered c.in_ok-record.was) (sym (ap (λ f. f.tag) c.fields-fields.ensures.value) ∙ c.in-Dec.is) in
+    let r = c.in_ok-read.field-0 in
+    let l = looked_decided cs c.loop-register.register (omega arith) (omega arith) c.loop-register.invariant.1 r (sym c.read.ensures ∙ ap numbered c.in_ok-read.was) (sym (ap (λ f. f.tag) c.fields-fields.ensures.value) ∙ c.in-Dec.is) in
     let same = ap (λ f. f.value) c.fields-fields.ensures.value in
-    record { value = ap Ok same ∙ sym (c.loop-i.invariant.0 ∙ l.0); first = subst (λ v. Looked cs (Ok v)) (sym same) l.1 }
+    record { value = ap Ok same ∙ sym (c.loop-register.invariant.0 ∙ l.0); first = subst (λ v. Looked cs (Ok v)) (sym same) l.1 }
 
-pub loop-i-preserved : goal.loop-i-preserved
-loop-i-preserved g c =
+pub loop-register-preserved : goal.loop-register-preserved
+loop-register-preserved g c =
     let cs = g.B.ReadBank.cells c.args.bank.now in
-    let within : c.loop-i.i < length cs = omega arith in
-    let l = looked_on cs c.loop-i.i within c.loop-i.invariant.1 c.in_ok-record.record (sym c.read.ensures ∙ ap numbered c.in_ok-record.was) (λ e. c.in_default.not-Dec (ap (λ f. f.tag) c.fields-fields.ensures.value ∙ e)) in
-    (c.loop-i.invariant.0 ∙ l.0, l.1)
+    let l = looked_on cs c.loop-register.register (omega arith) (omega arith) c.loop-register.invariant.1 c.in_ok-read.field-0 (sym c.read.ensures ∙ ap numbered c.in_ok-read.was) (λ e. c.in_default.not-Dec (ap (λ f. f.tag) c.fields-fields.ensures.value ∙ e)) (c.loop-register.register + 1 - 1) (omega arith) in
+    (c.loop-register.invariant.0 ∙ l.0, l.1)
 
 pub returns : goal.returns
 returns g c =
     let cs = g.B.ReadBank.cells c.args.bank.now in
-    let l = looked_all cs c.loop-i.i (omega arith) c.loop-i.invariant.1 in
-    record { value = sym (c.loop-i.invariant.0 ∙ l.0); first = l.1 }
+    elim c.loop-register-test.branch [
+      | else-loop-register-test w ↦
+          let l = looked_all cs (c.loop-register.register - 1) (omega arith) c.loop-register.invariant.1 in
+          record { value = sym (c.loop-register.invariant.0 ∙ l.0); first = l.1 }
+      | then-loop-register-test+in_ok-read+in_default+else-register-register-end w ↦
+          let l = looked_on cs c.loop-register.register (omega arith) (omega arith) c.loop-register.invariant.1 w.in_ok-read.field-0 (sym w.read.ensures ∙ ap numbered w.in_ok-read.was) (λ e. w.in_default.not-Dec (ap (λ f. f.tag) w.fields-fields.ensures.value ∙ e)) c.loop-register.register refl in
+          let m = looked_all cs c.loop-register.register (omega arith) l.1 in
+          record { value = sym (c.loop-register.invariant.0 ∙ l.0 ∙ m.0); first = m.1 }
+    ]
