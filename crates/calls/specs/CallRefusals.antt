@@ -1,5 +1,6 @@
 -- The number of each refusal of a call, and an answer with its refusal as a number.
-use Rattle.std.specs.Prelude.{ℕ, Ok, Err, Result}
+use Rattle.std.specs.Prelude.{ℕ, Result}
+use Rattle.registers.specs.Refusals.{numbered_by}
 use Rattle.calls.specs.declared.refusal.CallRefusal.{CallRefusal}
 use Rattle.calls.specs.declared.refusal.CallRefusal.TheVariants.{Size, NoWorker, Misplaced, Crashed, Proposed, NoProposal, Decided, RoundLimit, Bank}
 
@@ -15,5 +16,4 @@ call_refusal_number RoundLimit = 11
 call_refusal_number Bank = 12
 
 abbrev pub call_numbered : {X : Type 0} → Result X CallRefusal → Result X ℕ
-call_numbered (Ok x) = Ok x
-call_numbered (Err e) = Err (call_refusal_number e)
+call_numbered answer = numbered_by call_refusal_number answer

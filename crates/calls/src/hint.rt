@@ -37,12 +37,6 @@ pub fn trusted_leader(suspects: u8, workers: usize) -> Option<usize>
     ensures value { result ≡ trusted_leader suspects workers }
     ensures least { Leads suspects workers result }
 {
-    let mut rest = suspects;
-    for i in 0..workers {
-        if rest % 2 == 0 {
-            return Some(i + 1);
-        }
-        rest /= 2;
-    }
-    None
+    let leader = suspects.trailing_ones() as usize + 1;
+    (leader <= workers).then_some(leader)
 }

@@ -1,7 +1,10 @@
 // Why a call is refused.
 ghost use Rattle.std.specs.Prelude.{◌≡◌};
-ghost use Rattle.calls.specs.declared.refusal.CallRefusal.{CallRefusal};
+ghost use Rattle.calls.specs.declared.refusal.CallRefusal.TheVariants.{Bank};
+ghost use Rattle.registers.specs.Refusals.{Numbers};
 ghost use Rattle.calls.specs.CallRefusals.{call_refusal_number};
+
+use registers::refusal::Refusal;
 
 #[derive(Clone, Copy, PartialEq, Eq, Debug)]
 pub enum CallRefusal {
@@ -25,13 +28,13 @@ pub enum CallRefusal {
     Bank,
 }
 
-impl CallRefusal {
-    // The number by which users know the refusal; no two have the same.
-    pub fn number(self) -> u8
-        ensures value { result ≡ call_refusal_number self }
-        ensures tells { (other : CallRefusal) → call_refusal_number other ≡ result → other ≡ self }
-    {
-        match self {
+// The number by which users know the refusal; no two have the same. Contracts compare answers by
+// this number and not by the case: the rules are in numbers, and a case may come to hold more.
+impl From<CallRefusal> for u8 {
+    ghost from_gives = { Numbers call_refusal_number };
+
+    fn from(refusal: CallRefusal) -> u8 {
+        match refusal {
             CallRefusal::Size => 4,
             CallRefusal::NoWorker => 5,
             CallRefusal::Misplaced => 6,
@@ -42,5 +45,14 @@ impl CallRefusal {
             CallRefusal::RoundLimit => 11,
             CallRefusal::Bank => 12,
         }
+    }
+}
+
+// Whatever a bank refuses, the call is refused for it.
+impl From<Refusal> for CallRefusal {
+    ghost from_gives = { λ _ refusal. refusal ≡ Bank };
+
+    fn from(_refusal: Refusal) -> CallRefusal {
+        Self::Bank
     }
 }

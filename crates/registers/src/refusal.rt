@@ -1,5 +1,5 @@
 // Why a bank refuses a read or a write.
-ghost use Rattle.registers.specs.Refusals.{Numbers};
+ghost use Rattle.registers.specs.Refusals.{Numbers, refusal_number};
 
 #[derive(Clone, Copy, PartialEq, Eq, Debug)]
 pub enum Refusal {
@@ -14,7 +14,7 @@ pub enum Refusal {
 // The number by which users know the refusal; no two have the same. Contracts compare answers by
 // this number and not by the case: the rules are in numbers, and a case may come to hold more.
 impl From<Refusal> for u8 {
-    ghost from_gives = { Numbers };
+    ghost from_gives = { Numbers refusal_number };
 
     fn from(refusal: Refusal) -> u8 {
         match refusal {

@@ -1,15 +1,8 @@
-use Rattle.calls.proofs.Leading.{sought_found, sought_on, sought_none}
+use Rattle.std.proofs.Common.{arith}
+use Rattle.calls.proofs.Leading.{leads}
 use Rattle.calls.proofs.hint.trusted_leader.Goals as goal
-
-pub returns-then-rest-eq0 : goal.returns-then-rest-eq0
-returns-then-rest-eq0 c =
-    let f = sought_found _ _ c.loop-i.i _ c.loop-i.invariant c.loop-i-test.true c.if-rest-eq0.true in
-    record { value = f.0; least = f.1 }
-
-pub loop-i-preserved : goal.loop-i-preserved
-loop-i-preserved c = sought_on _ _ c.loop-i.i _ c.loop-i.invariant c.loop-i-test.true c.if-rest-eq0.false
 
 pub returns : goal.returns
 returns c =
-    let f = sought_none _ _ c.loop-i.i _ c.loop-i.invariant c.loop-i-test.false c.loop-i.auto.i-end in
-    record { value = f.0; least = f.1 }
+    let h = leads c.args.suspects c.args.workers c.trailing_ones.result (omega arith) c.trailing_ones.ensures c.then_some.result c.then_some.ensures in
+    record { value = h.0; least = h.1 }
