@@ -1,10 +1,12 @@
 // A batch of payments, by its number.
-ghost use Rattle.std.specs.Prelude.{◌≡◌};
+ghost use Rattle.std.specs.Prelude.{◌≡◌, Some, refl};
 ghost use Rattle.batches.specs.BatchForms.{batch, batch_image, batch_of_image, batch_text, batch_of_text};
 
 use decimals::read_decimal;
 use kinds::kind::Kind;
+use kinds::text::append;
 use std::alloc::AllocError;
+use std::fmt;
 
 // The first byte of each image.
 const MARK: u8 = 0x42;
@@ -25,6 +27,15 @@ impl Batch {
         ensures { result ≡ self.number }
     {
         self.number
+    }
+}
+
+impl fmt::Display for Batch {
+    ghost output = { λ batch. Some (batch_text batch) };
+
+    fn fmt<W: fmt::Write>(&self, f: &mut fmt::Formatter<W>) -> fmt::Result {
+        let number = self.number;
+        write!(f, "{number}")
     }
 }
 
@@ -52,14 +63,13 @@ impl Kind for Batch {
     }
 
     fn append_text(self, out: &mut String) -> Result<(), AllocError> {
-        let number = self.number;
-        let alloc = *out.allocator();
-        let text = format!(in alloc; "{number}")?;
-        out.push_str(text.as_str())
+        append(self, out)
     }
 
     fn from_text(text: &[u8]) -> Option<Batch> {
         let number = u32::try_from(read_decimal(text)?).ok()?;
         Some(Batch::new(number))
     }
+
+    ghost printed = { λ _. refl };
 }

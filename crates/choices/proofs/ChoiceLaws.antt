@@ -1,12 +1,11 @@
 -- Eight bytes, or a text, that read as a choice are its image, or its text, and give it back.
-use Rattle.std.proofs.Common.{◌≡◌, ℕ, ◌+◌, ◌^◌, ◌<◌, ◌≤◌, Bool, true, false, ◌⊎◌, List, [], ◌∷◌, length, get_or, take, drop, Some, None, decimal, Option, sym, refl, ap, ◌∙◌, inl, inr, true≢false, arith}
+use Rattle.std.proofs.Common.{◌≡◌, ℕ, ◌+◌, ◌^◌, ◌<◌, Bool, true, false, ◌⊎◌, List, [], ◌∷◌, length, get_or, take, drop, Some, None, decimal, Option, sym, refl, ap, ◌∙◌, inl, inr, true≢false, arith}
 use mathlib.Core.Bool.{Bool-set}
 use lib.Seq.{take-append_seam, drop-append-add}
-use Rattle.std.proofs.lemmas.List.{drop_all}
 use Rattle.std.proofs.lemmas.Bool.{cases_Bool, cond-true, cond-false}
 use Rattle.std.proofs.lemmas.Bool.Decides.{nat_tests}
 use Rattle.choices.specs.declared.choice.Choice.{Choice}
-use Rattle.choices.specs.ChoiceForms.{choice_if, choice_of, choice_image, is_choice_image, choice_of_image, choice_text, choice_from, choice_of_text, slash_at}
+use Rattle.choices.specs.ChoiceForms.{choice_if, choice_of, choice_image, is_choice_image, choice_of_image, slash, choice_text, first_slash, choice_from, choice_around, choice_of_text}
 use Rattle.decimals.specs.Decimals.{read_decimal}
 use Rattle.choices.specs.Regions.{is_choice}
 use Rattle.kinds.specs.Words.{bytes16, word16}
@@ -80,13 +79,17 @@ from_only (Some r) None c e = absurd (none_some e)
 from_only (Some r) (Some n) c e = let p = choice_only r n c e in (ap Some (sym p.0), ap Some (sym p.1))
 
 -- texts
-pub only_choice_text : (bs : List ℕ) → slash_at bs < length bs → (c : Choice) → choice_of_text bs ≡ Some c → bs ≡ choice_text c
-only_choice_text bs h c e =
-    let p = from_only (read_decimal (take (slash_at bs) bs)) (read_decimal (drop (slash_at bs + 1) bs)) c e in
-    let region = only_decimal (take (slash_at bs) bs) c.region p.0 in
-    let edition = only_decimal (drop (slash_at bs + 1) bs) c.edition p.1 in
-    let split = slash_splits bs h in
-    cc
+pub only_choice_text : (bs : List ℕ) (c : Choice) → choice_of_text bs ≡ Some c → bs ≡ choice_text c
+only_choice_text bs c e = by (first_slash bs) refl e
+  where
+    by : (o : Option ℕ) → first_slash bs ≡ o → choice_around bs o ≡ Some c → bs ≡ choice_text c
+    by None h e = absurd (none_some e)
+    by (Some at) h e =
+        let p = from_only (read_decimal (take at bs)) (read_decimal (drop (at + 1) bs)) c e in
+        let region = only_decimal (take at bs) c.region p.0 in
+        let edition = only_decimal (drop (at + 1) bs) c.edition p.1 in
+        let split = slash_splits bs at h in
+        cc
 
 pub back_choice_text : (c : Choice) → choice_of_text (choice_text c) ≡ Some c
 back_choice_text c =
@@ -95,12 +98,12 @@ back_choice_text c =
     let short : c.edition < 2 ^ 64 = grind (arith, nat_tests) in
     let ds = decimal c.region in
     let es = decimal c.edition in
-    let at = slash_after ds es (decimal_digits c.region small) in
-    let front = ap (λ n. take n (choice_text c)) at ∙ take-append_seam ds (47 ∷ es) in
-    let rest = ap (λ n. drop (n + 1) (choice_text c)) at ∙ drop-append-add ds (47 ∷ es) 1 in
-    let region = ap read_decimal front ∙ back_decimal c.region small in
-    let edition = ap read_decimal rest ∙ back_decimal c.edition short in
-    ap (λ a. choice_from a (read_decimal (drop (slash_at (choice_text c) + 1) (choice_text c)))) region ∙ ap (choice_from (Some c.region)) edition ∙ again c
+    let region = ap read_decimal (take-append_seam ds (slash ∷ es)) ∙ back_decimal c.region small in
+    let edition = ap read_decimal (drop-append-add ds (slash ∷ es) 1) ∙ back_decimal c.edition short in
+    ap (choice_around (choice_text c)) (slash_after ds es (decimal_digits c.region small))
+    ∙ ap (λ a. choice_from a (read_decimal (drop (length ds + 1) (choice_text c)))) region
+    ∙ ap (choice_from (Some c.region)) edition
+    ∙ again c
 
 -- numbers past their bounds choose nothing
 pub from_high_region : (r : ℕ) (b : Option ℕ) → 95 < r → None ≡ choice_from (Some r) b
@@ -110,13 +113,3 @@ from_high_region r (Some e) h = choice_none r e (grind (arith, nat_tests))
 pub from_high_edition : (a : Option ℕ) (e : ℕ) → 65535 < e → None ≡ choice_from a (Some e)
 from_high_edition None e h = refl
 from_high_edition (Some r) e h = choice_none r e (grind (arith, nat_tests))
-
-from_no_edition : (a : Option ℕ) → None ≡ choice_from a None
-from_no_edition None = refl
-from_no_edition (Some r) = refl
-
-pub no_slash : (bs : List ℕ) → slash_at bs ≡ length bs → None ≡ choice_of_text bs
-unfolding read_decimal
-no_slash bs h =
-    let past : length bs ≤ slash_at bs + 1 = omega arith in
-    from_no_edition (read_decimal (take (slash_at bs) bs)) ∙ sym (ap (λ ds. choice_from (read_decimal (take (slash_at bs) bs)) (read_decimal ds)) (drop_all (slash_at bs + 1) bs past))

@@ -1,6 +1,5 @@
 -- A choice as eight bytes and as a text.
-use Rattle.std.specs.Prelude.{◌≡◌, ℕ, ◌+◌, Bool, true, false, cond, not, ◌&&◌, List, [], ◌∷◌, ◌++◌, take, drop, Some, None, decimal, Option, ◌==◌, slice_index, refl}
-use Rattle.std.specs.List.{prefix_len}
+use Rattle.std.specs.Prelude.{◌≡◌, ℕ, ◌+◌, Bool, true, false, cond, ◌&&◌, List, [], ◌∷◌, ◌++◌, take, drop, position, Some, None, decimal, Option, ◌==◌, slice_index, refl}
 use Rattle.choices.specs.declared.choice.Choice.{Choice}
 use Rattle.decimals.specs.Decimals.{read_decimal}
 use Rattle.choices.specs.Regions.{is_choice}
@@ -23,18 +22,24 @@ is_choice_image xs = slice_index xs 0 == 0x43 && (slice_index xs 4 == 0 && (slic
 abbrev pub choice_of_image : List ℕ → Option Choice
 choice_of_image xs = cond (is_choice_image xs) (choice_of (slice_index xs 1) (word16 (slice_index xs 2) (slice_index xs 3))) None
 
--- 47 is the slash
-abbrev pub choice_text : Choice → List ℕ
-choice_text c = decimal c.region ++ (47 ∷ decimal c.edition)
+abbrev pub slash : ℕ
+slash = 47
 
--- how many bytes stand before the first slash
-abbrev pub slash_at : List ℕ → ℕ
-slash_at bs = prefix_len (λ b. not (b == 47)) bs
+abbrev pub choice_text : Choice → List ℕ
+choice_text c = decimal c.region ++ (slash ∷ decimal c.edition)
+
+abbrev pub first_slash : List ℕ → Option ℕ
+first_slash bs = position (λ b. b == slash) bs
 
 abbrev pub choice_from : Option ℕ → Option ℕ → Option Choice
 choice_from None edition = None
 choice_from (Some region) None = None
 choice_from (Some region) (Some edition) = choice_of region edition
 
+-- the region before the slash at this place, the edition behind it
+abbrev pub choice_around : List ℕ → Option ℕ → Option Choice
+choice_around bs None = None
+choice_around bs (Some at) = choice_from (read_decimal (take at bs)) (read_decimal (drop (at + 1) bs))
+
 abbrev pub choice_of_text : List ℕ → Option Choice
-choice_of_text bs = choice_from (read_decimal (take (slash_at bs) bs)) (read_decimal (drop (slash_at bs + 1) bs))
+choice_of_text bs = choice_around bs (first_slash bs)

@@ -2,8 +2,10 @@
 ghost use Rattle.std.specs.Prelude.{◌≡◌, ℕ, List, ◌++◌, is_ok, if◌then◌else◌, Some, string_bytes, Option};
 
 use std::alloc::AllocError;
+use std::fmt::Display;
 
-pub trait Kind: Copy {
+// The text is what `{}` prints.
+pub trait Kind: Copy + Display {
     ghost image_of: { Self → List ℕ };
 
     ghost of_image: { List ℕ → Option Self };
@@ -30,4 +32,6 @@ pub trait Kind: Copy {
     fn from_text(text: &[u8]) -> Option<Self>
         ensures value { result ≡ of_text text.now }
         ensures only { (v : Self) → result ≡ Some v → text.now ≡ text_of v };
+
+    ghost printed: { (v : Self) → Self.Display.output v ≡ Some (text_of v) };
 }

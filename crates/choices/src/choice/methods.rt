@@ -1,12 +1,14 @@
 // How a choice is made and read, with its image and its text.
-ghost use Rattle.std.specs.Prelude.{◌≡◌, ◌≤◌, [], ◌∷◌, length};
+ghost use Rattle.std.specs.Prelude.{◌≡◌, [], ◌∷◌, Some, refl};
 ghost use Rattle.kinds.specs.Words.{bytes16, word16};
-ghost use Rattle.choices.specs.ChoiceForms.{choice_of, choice_image, choice_of_image, choice_text, choice_of_text, choice_from, slash_at};
+ghost use Rattle.choices.specs.ChoiceForms.{choice_of, choice_image, choice_of_image, choice_text, choice_of_text, choice_from, first_slash};
 
 use super::Choice;
 use decimals::read_decimal;
 use kinds::kind::Kind;
+use kinds::text::append;
 use std::alloc::AllocError;
+use std::fmt;
 
 const LAST_REGION: u8 = 95;
 
@@ -50,17 +52,11 @@ fn edition_of(high: u8, low: u8) -> u16
     u16::from_be_bytes([high, low])
 }
 
-// Where the first slash stands; the length of `text` where there is none.
-fn slash(text: &[u8]) -> usize
-    ensures value { result ≡ slash_at text.now }
-    ensures bound { result ≤ length text.now }
+// Where the first slash stands.
+fn slash(text: &[u8]) -> Option<usize>
+    ensures { result ≡ first_slash text.now }
 {
-    for (i, byte) in text.iter().enumerate() {
-        if *byte == SLASH {
-            return i;
-        }
-    }
-    text.len()
+    text.iter().position(|byte| *byte == SLASH)
 }
 
 // The choice of two numbers that were read.
@@ -70,6 +66,16 @@ fn choose(region: Option<u64>, edition: Option<u64>) -> Option<Choice>
     let region = u8::try_from(region?).ok()?;
     let edition = u16::try_from(edition?).ok()?;
     Choice::new(region, edition)
+}
+
+impl fmt::Display for Choice {
+    ghost output = { λ choice. Some (choice_text choice) };
+
+    fn fmt<W: fmt::Write>(&self, f: &mut fmt::Formatter<W>) -> fmt::Result {
+        let region = self.region;
+        let edition = self.edition;
+        write!(f, "{region}/{edition}")
+    }
 }
 
 impl Kind for Choice {
@@ -96,18 +102,13 @@ impl Kind for Choice {
     }
 
     fn append_text(self, out: &mut String) -> Result<(), AllocError> {
-        let region = self.region;
-        let edition = self.edition;
-        let alloc = *out.allocator();
-        let text = format!(in alloc; "{region}/{edition}")?;
-        out.push_str(text.as_str())
+        append(self, out)
     }
 
     fn from_text(text: &[u8]) -> Option<Choice> {
-        let at = slash(text);
-        if at == text.len() {
-            return None;
-        }
-        choose(read_decimal(&text[0..at]), read_decimal(&text[at + 1..]))
+        let at = slash(text)?;
+        choose(read_decimal(&text[..at]), read_decimal(&text[at + 1..]))
     }
+
+    ghost printed = { λ _. refl };
 }
