@@ -1,6 +1,7 @@
 -- Bytes by their places: the parts of a block, read off one by one and put together again.
 use Rattle.std.proofs.Common.{◌≡◌, ℕ, ◌+◌, ◌<◌, ◌≤◌, true, false, ◌&&◌, eqb, List, [], ◌∷◌, ◌++◌, length, get_or, take, drop, replicate, sym, refl, ap, ◌∙◌, arith, length-drop, length-take, get_or-drop, get_or-take}
 use Rattle.std.proofs.lemmas.List.FromFn.{fill_by_all}
+use Rattle.std.proofs.lemmas.List.Sums.{AllPass-from_list_all}
 use Rattle.std.proofs.lemmas.List.{drop_more, drop_all, drop-drop, take-append-drop}
 use Rattle.std.proofs.lemmas.Bool.{and_left, and_parts, and_from, eqb-true, eq-eqb, ne_eqb}
 use Rattle.kinds.proofs.WordLaws.{eight}
@@ -27,12 +28,6 @@ four_at b at h =
     zero_more : at + 0 ≡ at
     zero_more = omega arith
 
--- the last eight bytes of a block
-pub last_eight : (b : List ℕ) → length b ≡ block_len → drop 12 b ≡ get_or b 12 0 ∷ get_or b 13 0 ∷ get_or b 14 0 ∷ get_or b 15 0 ∷ get_or b 16 0 ∷ get_or b 17 0 ∷ get_or b 18 0 ∷ get_or b 19 0 ∷ []
-last_eight b h =
-    let sized : length (drop 12 b) ≡ 8 = simp length-drop (omega arith) in
-    fill_by_all (λ k. get_or b (12 + k) 0) (drop 12 b) 8 0 sized (λ k p. get_or-drop 12 b k 0)
-
 -- a list is its front and its rest
 front : (b : List ℕ) → length b ≡ block_len → b ≡ get_or b 0 0 ∷ get_or b 1 0 ∷ get_or b 2 0 ∷ get_or b 3 0 ∷ drop 4 b
 front b h = drop_more b 0 0 (omega arith) ∙ ap (λ l. get_or b 0 0 ∷ l) (drop_more b 1 0 (omega arith)) ∙ ap (λ l. get_or b 0 0 ∷ get_or b 1 0 ∷ l) (drop_more b 2 0 (omega arith)) ∙ ap (λ l. get_or b 0 0 ∷ get_or b 1 0 ∷ get_or b 2 0 ∷ l) (drop_more b 3 0 (omega arith))
@@ -47,25 +42,8 @@ relaid b e =
     let tail : drop 4 b ≡ take 4 (drop 4 b) ++ (take 4 (drop 8 b) ++ drop 12 b) = sym (take-append-drop 4 (drop 4 b)) ∙ ap (λ l. take 4 (drop 4 b) ++ l) (drop-drop 4 4 b ∙ sym (take-append-drop 4 (drop 8 b)) ∙ ap (λ l. take 4 (drop 8 b) ++ l) (drop-drop 4 8 b)) in
     front b sized ∙ ap (λ x. get_or b 0 0 ∷ x ∷ get_or b 2 0 ∷ get_or b 3 0 ∷ drop 4 b) (eqb-true (get_or b 1 0) 0 q.0) ∙ ap (λ x. get_or b 0 0 ∷ 0 ∷ x ∷ get_or b 3 0 ∷ drop 4 b) (eqb-true (get_or b 2 0) 0 r.0) ∙ ap (λ x. get_or b 0 0 ∷ 0 ∷ 0 ∷ x ∷ drop 4 b) (eqb-true (get_or b 3 0) 0 r.1) ∙ ap (λ l. get_or b 0 0 ∷ 0 ∷ 0 ∷ 0 ∷ l) tail
 
--- the bytes from a place on are all zero
-pub zero_more : (xs : List ℕ) (i : ℕ) → i < length xs → get_or xs i 0 ≡ 0 → all_zero (drop i xs) ≡ all_zero (drop (i + 1) xs)
-zero_more xs i h e = ap all_zero (drop_more xs i 0 h) ∙ ap (λ t. t && all_zero (drop (i + 1) xs)) (eq-eqb (get_or xs i 0) 0 e)
-
-pub zero_fails : (xs : List ℕ) (i : ℕ) → i < length xs → (get_or xs i 0 ≡ 0 → ⊥) → all_zero (drop i xs) ≡ false
-zero_fails xs i h n = ap all_zero (drop_more xs i 0 h) ∙ and_left (eqb (get_or xs i 0) 0) (all_zero (drop (i + 1) xs)) (ne_eqb (get_or xs i 0) 0 n)
-
-pub zero_all : (xs : List ℕ) (i : ℕ) → length xs ≤ i → all_zero (drop i xs) ≡ true
-zero_all xs i h = ap all_zero (drop_all i xs h)
-
--- only zeros: as many as the list is long
-zeros : (xs : List ℕ) → all_zero xs ≡ true → xs ≡ replicate (length xs) 0
-zeros [] e = refl
-zeros (x ∷ xs) e =
-    let p = and_parts (eqb x 0) (all_zero xs) e in
-    ap (λ y. y ∷ xs) (eqb-true x 0 p.0) ∙ ap (λ l. 0 ∷ l) (zeros xs p.1)
-
 pub eight_zeros : (xs : List ℕ) → length xs ≡ 8 → all_zero xs ≡ true → xs ≡ 0 ∷ 0 ∷ 0 ∷ 0 ∷ 0 ∷ 0 ∷ 0 ∷ 0 ∷ []
-eight_zeros xs h e = zeros xs e ∙ ap (λ n. replicate n 0) h
+eight_zeros xs h e = fill_by_all (λ k. 0) xs 8 0 h (λ k p. eqb-true (get_or xs k 0) 0 (AllPass-from_list_all (λ x. eqb x 0) xs e k 0 (omega arith)))
 
 pub is_laid_by : (b : List ℕ) → length b ≡ block_len → get_or b 1 0 ≡ 0 → get_or b 2 0 ≡ 0 → get_or b 3 0 ≡ 0 → is_laid b ≡ true
 is_laid_by b p q r s =

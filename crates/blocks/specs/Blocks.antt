@@ -20,21 +20,25 @@ module _ {V : Type 0} where
   ImagedBack image_of of_image (Some v) = of_image (image_of v) ≡ Some v
 
   abbrev pub encoded : (V → List ℕ) → Record V → List ℕ
-  encoded image_of r = laid (tag_byte r.tag) (bytes32 r.round) (bytes32 r.accepted) (value_bytes image_of r.value)
+  encoded image_of r = laid (tag_byte r.fields.tag) (bytes32 r.fields.round) (bytes32 r.fields.accepted) (value_bytes image_of r.fields.value)
 
-  abbrev pub with_value : ℕ → ℕ → Tag → Option V → Option (Record V)
-  with_value r a t None = None
-  with_value r a t (Some v) = made (record { round = r; accepted = a; tag = t; value = Some v })
+  abbrev pub present : Option V → Option (Option V)
+  present None = None
+  present (Some v) = Some (Some v)
 
   -- with tag none the value bytes must be 00; with another they are the image of the value
-  abbrev pub with_tag : (List ℕ → Option V) → ℕ → ℕ → List ℕ → Tag → Option (Record V)
-  with_tag of_image r a image Untagged = cond (all_zero image) (made (record { round = r; accepted = a; tag = Untagged; value = None })) None
-  with_tag of_image r a image Pro = with_value r a Pro (of_image image)
-  with_tag of_image r a image Dec = with_value r a Dec (of_image image)
+  abbrev pub value_of : (List ℕ → Option V) → List ℕ → Tag → Option (Option V)
+  value_of of_image image Untagged = cond (all_zero image) (Some None) None
+  value_of of_image image Pro = present (of_image image)
+  value_of of_image image Dec = present (of_image image)
 
-  abbrev pub if_tagged : (List ℕ → Option V) → ℕ → ℕ → List ℕ → Option Tag → Option (Record V)
-  if_tagged of_image r a image None = None
-  if_tagged of_image r a image (Some t) = with_tag of_image r a image t
+  abbrev pub with_value : ℕ → ℕ → Tag → Option (Option V) → Option (Record V)
+  with_value r a t None = None
+  with_value r a t (Some v) = made (record { round = r; accepted = a; tag = t; value = v })
+
+  abbrev pub with_tag : (List ℕ → Option V) → ℕ → ℕ → List ℕ → Option Tag → Option (Record V)
+  with_tag of_image r a image None = None
+  with_tag of_image r a image (Some t) = with_value r a t (value_of of_image image t)
 
   abbrev pub decoded : (List ℕ → Option V) → List ℕ → Option (Record V)
-  decoded of_image b = cond (is_laid b) (if_tagged of_image (word_at b 4) (word_at b 8) (drop 12 b) (tag_of (slice_index b 0))) None
+  decoded of_image b = cond (is_laid b) (with_tag of_image (word_at b 4) (word_at b 8) (drop 12 b) (tag_of (slice_index b 0))) None

@@ -1,5 +1,6 @@
 -- Where the parts of a block stand: the tag, three bytes 00, the round, the accepted round, and the value.
-use Rattle.std.specs.Prelude.{ℕ, ◌+◌, Bool, true, ◌&&◌, List, [], ◌∷◌, ◌++◌, length, ◌==◌, slice_index}
+use Rattle.std.specs.Prelude.{ℕ, ◌+◌, Bool, ◌&&◌, List, ◌∷◌, ◌++◌, length, ◌==◌, slice_index}
+use Rattle.std.specs.List.{list_all}
 use Rattle.kinds.specs.Words.{word32}
 
 abbrev pub block_len : ℕ
@@ -16,5 +17,4 @@ abbrev pub word_at : List ℕ → ℕ → ℕ
 word_at b at = word32 (slice_index b at) (slice_index b (at + 1)) (slice_index b (at + 2)) (slice_index b (at + 3))
 
 abbrev pub all_zero : List ℕ → Bool
-all_zero [] = true
-all_zero (x ∷ xs) = x == 0 && all_zero xs
+all_zero xs = list_all (λ x. x == 0) xs

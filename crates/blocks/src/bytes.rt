@@ -14,12 +14,7 @@ pub(crate) fn count<K: Kind>(bytes: &[u8]) -> usize
     ensures cells { result ≡ length (block_cells K.Kind.of_image bytes.now) }
     ensures blocks { result ≡ block_count (length bytes.now) }
 {
-    let blocks = bytes.len() / BLOCK_LEN;
-    if blocks < MAX_REGISTERS {
-        blocks
-    } else {
-        MAX_REGISTERS
-    }
+    (bytes.len() / BLOCK_LEN).min(MAX_REGISTERS)
 }
 
 pub(crate) fn fetch<K: Kind>(bytes: &[u8], register: usize) -> Result<Record<K>, Refusal>
@@ -30,10 +25,7 @@ pub(crate) fn fetch<K: Kind>(bytes: &[u8], register: usize) -> Result<Record<K>,
         return Err(Refusal::NoRegister);
     }
     let at = BLOCK_LEN * (register - 1);
-    match decode(&bytes[at..at + BLOCK_LEN]) {
-        None => Err(Refusal::Unreadable),
-        Some(item) => Ok(item),
-    }
+    decode(&bytes[at..at + BLOCK_LEN]).ok_or(Refusal::Unreadable)
 }
 
 pub(crate) fn store<K: Kind>(
@@ -51,13 +43,8 @@ pub(crate) fn store<K: Kind>(
     if register < 1 || register > size {
         return Err(Refusal::NoRegister);
     }
-    match Record::new(*fields) {
-        None => Err(Refusal::Unlawful),
-        Some(item) => {
-            let block = encode(&item);
-            let at = BLOCK_LEN * (register - 1);
-            bytes[at..at + BLOCK_LEN].copy_from_slice(&block);
-            Ok(())
-        }
-    }
+    let item = Record::new(*fields).ok_or(Refusal::Unlawful)?;
+    let at = BLOCK_LEN * (register - 1);
+    bytes[at..at + BLOCK_LEN].copy_from_slice(&encode(&item));
+    Ok(())
 }

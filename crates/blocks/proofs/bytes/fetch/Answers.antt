@@ -1,15 +1,21 @@
-use Rattle.std.proofs.Common.{◌+◌, ◌-◌, ◌*◌, ap, ◌∙◌, arith}
-use Rattle.registers.specs.Cells.{cell_answer}
+use Rattle.std.proofs.Common.{◌≡◌, ◌+◌, ◌-◌, ◌*◌, Option, Err, Ok, Some, None, refl, ap, ◌∙◌, arith}
+use Rattle.std.specs.Option.{ok_or}
+use Rattle.registers.specs.Cells.{Cell, cell_answer}
+use Rattle.registers.specs.Refusals.{numbered}
+use Rattle.registers.specs.declared.refusal.Refusal.TheVariants.{Unreadable}
 use Rattle.blocks.specs.Layout.{block_len}
 use Rattle.blocks.proofs.BlockBanks.{blocks_read}
 use Rattle.blocks.proofs.bytes.fetch.Goals as goal
 
-pub returns-in-None : goal.returns-in-None
-returns-in-None g c =
-    let at = block_len * (c.args.register - 1) in
-    ap cell_answer c.in-None.ensures.value ∙ blocks_read g.K.Kind.of_image c.args.bytes.now c.args.register (at + block_len - at) (omega arith) (omega arith) (omega arith)
+-- a block that is no record's is an unreadable cell
+answered : {V : Type 0} (o : Cell V) → numbered (ok_or o Unreadable) ≡ cell_answer o
+answered None = refl
+answered (Some r) = refl
 
-pub returns-in-Some : goal.returns-in-Some
-returns-in-Some g c =
+pub returns : goal.returns
+returns g c =
     let at = block_len * (c.args.register - 1) in
-    ap cell_answer c.in-Some.ensures.value ∙ blocks_read g.K.Kind.of_image c.args.bytes.now c.args.register (at + block_len - at) (omega arith) (omega arith) (omega arith)
+    ap numbered c.ok_or.ensures.value
+    ∙ answered c.decode.result
+    ∙ ap cell_answer c.decode.ensures.value
+    ∙ blocks_read g.K.Kind.of_image c.args.bytes.now c.args.register (at + block_len - at) (omega arith) (omega arith) (omega arith)
