@@ -1,5 +1,5 @@
 -- A block gives back the record that it was made from, and a block that reads as a record is that record's.
-use Rattle.std.proofs.Common.{◌≡◌, ℕ, Bool, true, false, cond, List, length, get_or, take, drop, Some, None, Option, sym, refl, ap, ◌∙◌, true≢false, arith}
+use Rattle.std.proofs.Common.{◌≡◌, ℕ, true, List, length, get_or, take, drop, Some, None, Option, sym, refl, ap, ◌∙◌, true≢false, arith}
 use Rattle.std.proofs.lemmas.Bool.{cond-true}
 use Rattle.decimals.proofs.Apart.{none_some}
 use Rattle.kinds.specs.Words.{bytes32}
