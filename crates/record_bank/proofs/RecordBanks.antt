@@ -1,17 +1,14 @@
 -- The cells of a list of records, as the bank on it reads and writes them.
-use Rattle.std.proofs.Common.{◌≡◌, ℕ, ◌-◌, ◌<◌, ◌≤◌, min, ◌⊎◌, List, map, length, get_or, take, drop, set, Some, None, Ok, Err, sym, ap, ◌∙◌, arith, length-take, get_or-take, drop-set-lt}
+use Rattle.std.proofs.Common.{◌≡◌, ℕ, ◌-◌, ◌<◌, ◌≤◌, min, List, map, length, get_or, take, drop, set, Some, None, Ok, sym, ap, ◌∙◌, arith, length-take, get_or-take, drop-set-lt}
 use lib.ListN.{length-map}
 use lib.Seq.{take-set-lt}
 use Rattle.std.proofs.lemmas.List.{map-set, get_or-map}
-use Rattle.std.proofs.lemmas.Bool.{cond-true, cond-false}
 use Rattle.registers.specs.declared.record.Fields.{Fields}
 use Rattle.registers.specs.declared.record.Record.{Record}
-use Rattle.registers.specs.declared.refusal.Refusal.TheVariants.{Unlawful}
-use Rattle.registers.specs.Refusals.{refusal_number}
 use Rattle.registers.specs.Records.{made}
-use Rattle.registers.specs.Cells.{max_registers, cell_answer, read_answer, made_answer, write_answer, made_cells, write_cells}
-use Rattle.record_bank.specs.RecordCells.{record_cells, made_records, write_records}
-use Rattle.registers.proofs.Answering.{reads, writes_answer, writes_cells, write_length, stands_true, stands_false}
+use Rattle.registers.specs.Cells.{max_registers, cell_answer, read_answer, made_cells, write_cells}
+use Rattle.record_bank.specs.RecordCells.{record_cells}
+use Rattle.registers.proofs.Answering.{reads, writes_cells, write_length}
 
 module _ {V : Type 0} (rs : List (Record V)) where
   pub record_count : length (record_cells rs) ≡ min max_registers (length rs)
@@ -35,12 +32,6 @@ module _ {V : Type 0} (rs : List (Record V)) where
 
     -- after an accepted write
     module _ (f : Fields V) (r : Record V) (e : Some r ≡ made f) where
-      pub record_answer : Ok tt ≡ write_answer (record_cells rs) j f
-      record_answer = sym (writes_answer (record_cells rs) j low high f ∙ ap made_answer (sym e))
-
-      pub record_written : set rs (j - 1) r ≡ write_records rs j f
-      record_written = sym (cond-true _ _ _ (stands_true (length (record_cells rs)) j low high) ∙ ap (made_records rs j) (sym e))
-
       pub record_after : record_cells (set rs (j - 1) r) ≡ write_cells (record_cells rs) j f
       record_after = record_set (j - 1) r limited ∙ sym (writes_cells (record_cells rs) j low high f ∙ ap (made_cells (record_cells rs) j) (sym e))
 
@@ -49,18 +40,3 @@ module _ {V : Type 0} (rs : List (Record V)) where
 
       pub record_rest : drop max_registers (set rs (j - 1) r) ≡ drop max_registers rs
       record_rest = drop-set-lt max_registers rs (j - 1) r limited
-
-  -- after a refused write
-  module _ (j : ℕ) (f : Fields V) where
-    pub record_out : (out : (j < 1) ⊎ (length (record_cells rs) < j)) → rs ≡ write_records rs j f
-    record_out out = sym (cond-false _ _ _ (stands_false (length (record_cells rs)) j out))
-
-    module _ (low : 1 ≤ j) (high : j ≤ length (record_cells rs)) (e : None ≡ made f) where
-      pub unlawful_answer : Err (refusal_number Unlawful) ≡ write_answer (record_cells rs) j f
-      unlawful_answer = sym (writes_answer (record_cells rs) j low high f ∙ ap made_answer (sym e))
-
-      pub unlawful_records : rs ≡ write_records rs j f
-      unlawful_records = sym (cond-true _ _ _ (stands_true (length (record_cells rs)) j low high) ∙ ap (made_records rs j) (sym e))
-
-      pub unlawful_after : record_cells rs ≡ write_cells (record_cells rs) j f
-      unlawful_after = sym (writes_cells (record_cells rs) j low high f ∙ ap (made_cells (record_cells rs) j) (sym e))

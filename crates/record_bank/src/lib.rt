@@ -29,11 +29,7 @@ impl<'a, V: Copy> RecordBank<'a, V> {
 fn count<V: Copy>(records: &[Record<V>]) -> usize
     ensures { result ≡ length (record_cells records.now) }
 {
-    if records.len() < MAX_REGISTERS {
-        records.len()
-    } else {
-        MAX_REGISTERS
-    }
+    records.len().min(MAX_REGISTERS)
 }
 
 fn fetch<V: Copy>(records: &[Record<V>], register: usize) -> Result<Record<V>, Refusal>
@@ -61,13 +57,8 @@ fn store<V: Copy>(
     if register < 1 || register > size {
         return Err(Refusal::NoRegister);
     }
-    match Record::new(*fields) {
-        None => Err(Refusal::Unlawful),
-        Some(record) => {
-            records[register - 1] = record;
-            Ok(())
-        }
-    }
+    records[register - 1] = Record::new(*fields).ok_or(Refusal::Unlawful)?;
+    Ok(())
 }
 
 impl<'a, V: Copy> ReadBank for RecordBank<'a, V> {

@@ -3,7 +3,7 @@ ghost use Rattle.std.specs.Prelude.{◌≡◌, IfOk, string_bytes};
 ghost use Rattle.report.specs.Lines.{report_text};
 ghost use Rattle.report.specs.Views.{viewed_cells};
 
-use super::lines::{decision_line, register_line, size_line};
+use super::lines::{DecisionLine, RegisterLine};
 use blocks::image_bank::ImageBank;
 use kinds::kind::Kind;
 use layers::window::Window;
@@ -11,19 +11,25 @@ use registers::bank::ReadBank;
 use registers::decision::look_up;
 use requests::Span;
 use std::alloc::{AllocError, Global};
+use std::fmt::Write;
 
 // The number of registers, a line for each, and the decision that the bank shows.
 pub fn report<K: Kind, B: ReadBank<Value = K>>(heap: Global, bank: &B) -> Result<String, AllocError>
     ensures { IfOk result (λ s. string_bytes s ≡ report_text K.Kind.text_of (B.ReadBank.cells bank.now)) }
 {
     let size = bank.size();
-    let mut out = size_line(heap, size)?;
-    for i in 0..size {
-        let line = register_line(heap, i + 1, bank.read(i + 1))?;
-        out.push_str(line.as_str())?;
+    let mut out = format!(in heap; "registers,{size}\n")?;
+    for register in 1..=size {
+        let line = RegisterLine {
+            number: register,
+            answer: bank.read(register),
+        };
+        write!(out, "{line}")?;
     }
-    let last = decision_line(heap, look_up(bank))?;
-    out.push_str(last.as_str())?;
+    let line = DecisionLine {
+        answer: look_up(bank),
+    };
+    write!(out, "{line}")?;
     Ok(out)
 }
 

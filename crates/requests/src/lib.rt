@@ -2,37 +2,22 @@
 #![tactic(auto)]
 
 ghost use Rattle.std.specs.Prelude.{◌≡◌};
-ghost use Rattle.requests.specs.Requests.{kind_of, request_of, window_request_of};
+ghost use Rattle.requests.specs.Requests.{request_of, window_request_of};
 
 use decimals::read_decimal;
-
-#[derive(Clone, Copy)]
-pub enum KindName {
-    Batch,
-    Choice,
-}
+use kinds::name::KindName;
 
 // The registers from `first` on, `count` of them.
-#[derive(Clone, Copy)]
+#[derive(Clone, Copy, PartialEq, Eq, Debug)]
 pub struct Span {
     pub first: usize,
     pub count: usize,
 }
 
-#[derive(Clone, Copy)]
+#[derive(Clone, Copy, PartialEq, Eq, Debug)]
 pub struct Request {
     pub kind: KindName,
     pub span: Option<Span>,
-}
-
-fn read_kind(text: &[u8]) -> Option<KindName>
-    ensures { result ≡ kind_of text.now }
-{
-    match text {
-        [b'B'] => Some(KindName::Batch),
-        [b'C'] => Some(KindName::Choice),
-        _ => None,
-    }
 }
 
 impl Request {
@@ -40,7 +25,7 @@ impl Request {
     pub fn whole(kind: &[u8]) -> Option<Request>
         ensures { result ≡ request_of kind.now }
     {
-        let kind = read_kind(kind)?;
+        let kind = KindName::try_from(kind).ok()?;
         Some(Request { kind, span: None })
     }
 
@@ -48,7 +33,7 @@ impl Request {
     pub fn window(kind: &[u8], first: &[u8], count: &[u8]) -> Option<Request>
         ensures { result ≡ window_request_of kind.now first.now count.now }
     {
-        let kind = read_kind(kind)?;
+        let kind = KindName::try_from(kind).ok()?;
         let first = read_decimal(first)? as usize;
         let count = read_decimal(count)? as usize;
         Some(Request {
