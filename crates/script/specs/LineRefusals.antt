@@ -1,7 +1,12 @@
 -- The number of each refusal of a line, and an answer with its refusal as a number.
-use Rattle.std.specs.Prelude.{ℕ, Ok, Err, Result}
+use Rattle.std.specs.Prelude.{◌≡◌, ℕ, Ok, Err, Result}
 use Rattle.script.specs.declared.refusal.LineRefusal.{LineRefusal}
 use Rattle.script.specs.declared.refusal.LineRefusal.TheVariants.{Shape, BeforeOpen, OpenAgain, NoValue, BadValue}
+
+-- For every type R of refusals with a number for each: n is the number of this refusal, and of no other.
+pub record Numbers {R : Type 0} (number : R → ℕ) (r : R) (n : ℕ) : Type 0 where
+  pub value : n ≡ number r
+  pub tells : (other : R) → number other ≡ n → other ≡ r
 
 abbrev pub line_refusal_number : LineRefusal → ℕ
 line_refusal_number Shape = 13
