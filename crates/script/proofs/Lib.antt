@@ -1,5 +1,5 @@
-pub mod Apart
 pub mod FieldLaws
 pub mod LineLaws
+pub mod Options
 pub mod ShapeLaws
 pub mod TwoFields

@@ -1,14 +1,14 @@
 -- Two fields and the comma between them make the text, and only so.
-use Rattle.std.proofs.Common.{◌≡◌, ℕ, ◌+◌, ◌-◌, ◌<◌, true, eqb, ltb, List, ◌∷◌, ◌++◌, length, take, drop, Some, None, Option, sym, ap, ◌∙◌, subst, arith, length-append, length-drop, length-take, get_or-drop, get_or-take}
+use Rattle.std.proofs.Common.{◌≡◌, ℕ, ◌+◌, ◌-◌, ◌<◌, true, eqb, ltb, List, ◌∷◌, ◌++◌, length, take, drop, Some, Option, sym, ap, ◌∙◌, subst, arith, length-append, length-drop, length-take, get_or-drop, get_or-take}
 use Rattle.std.proofs.Math.Seq.{take-append_seam, drop-append-add, get_or-append_seam}
 use Rattle.std.proofs.lemmas.List.Sums.{split_at_first, passes_at_first, position_or_len_is}
 use Rattle.std.specs.List.{before_first, after_first}
 use Rattle.std.proofs.lemmas.List.{take_all, get_or_append_left}
-use Rattle.std.proofs.lemmas.Bool.{and_from, and_parts, eq-eqb, eqb-true, ne_eqb, lt-ltb, ltb-true, cond-true, cond_both}
+use Rattle.std.proofs.lemmas.Bool.{and_from, and_parts, eq-eqb, eqb-true, ne_eqb, lt-ltb, ltb-true, cond-true}
 use Rattle.script.specs.Fields.{comma, is_comma, before_comma, field_end}
 use Rattle.script.specs.Shapes.{are_two, first_field, second_field, two_fields}
 use Rattle.script.specs.LineTexts.{NoComma}
-use Rattle.script.proofs.Apart.{none_some}
+use Rattle.std.proofs.lemmas.Option.{cond_some}
 use Rattle.script.proofs.FieldLaws.{parted}
 
 pub record Two (text a b : List ℕ) : Type 0 where
@@ -53,15 +53,11 @@ module _ (text : List ℕ) (inside : field_end text 0 < length text) (last : fie
   }
 
 pub two_only : (text a b : List ℕ) → two_fields text ≡ pair a b → Two text a b
-two_only text a b = cond_both (are_two text) (pair (first_field text) (second_field text)) None (λ o. o ≡ pair a b → Two text a b) found (λ _ e. absurd (none_some e))
-  where
-    found : are_two text ≡ true → pair (first_field text) (second_field text) ≡ pair a b → Two text a b
-    found t e =
-        let p : (ltb (field_end text 0) (length text) ≡ true) × (eqb (field_end text (field_end text 0 + 1)) (length text) ≡ true) = and_parts _ _ t in
-        let same : ◌≡◌ {A = List ℕ × List ℕ} (first_field text, second_field text) (a, b) = cc in
-        let first : first_field text ≡ a = ap (λ (q : List ℕ × List ℕ). q.0) same in
-        let second : second_field text ≡ b = ap (λ (q : List ℕ × List ℕ). q.1) same in
-        subst (Two text a) second (subst (λ x. Two text x (second_field text)) first (two_parts text (ltb-true _ _ p.0) (eqb-true _ _ p.1)))
+two_only text a b e =
+    let c = cond_some (are_two text) (first_field text, second_field text) (a, b) e in
+    let p = and_parts (ltb (field_end text 0) (length text)) (eqb (field_end text (field_end text 0 + 1)) (length text)) c.0 in
+    let two = two_parts text (ltb-true _ _ p.0) (eqb-true _ _ p.1) in
+    subst (λ (q : List ℕ × List ℕ). Two text q.0 q.1) c.1 two
 
 -- from two fields
 all_free : (b : List ℕ) → NoComma b → before_comma b ≡ length b
