@@ -1,11 +1,11 @@
 -- A line asks what its text says, and a text that says it is read so.
 use Rattle.std.proofs.Common.{◌≡◌, ℕ, zero, suc, ◌<◌, ◌≤◌, true, cond, ◌&&◌, eqb, leb, ltb, List, [], ◌∷◌, ◌++◌, length, get_or, drop, Some, None, Ok, decimal, Option, sym, refl, ap, ◌∙◌, subst, arith}
 use Rattle.std.specs.Str.Parse.{digits_value as value}
-use Rattle.std.specs.Str.{all_ascii_digits}
-use Rattle.std.proofs.lemmas.Str.Parse.{IsNumeralModel, numerals_by_value, tells_all_ascii_digits, digit_at}
+use Rattle.std.proofs.lemmas.Fmt.{decimal_is_IsNumeral}
+use Rattle.std.proofs.lemmas.Str.Parse.{digit_at}
 use Rattle.std.proofs.lemmas.Bool.{and_from, and_parts, eqb-true, le-leb, leb-true, lt-ltb, ltb-true, cond-true, cond_both}
 use Rattle.decimals.specs.Decimals.{read_decimal}
-use Rattle.decimals.proofs.DecimalLaws.{only_decimal, back_decimal, decimal_digits}
+use Rattle.decimals.proofs.DecimalLaws.{only_decimal, back_decimal}
 use Rattle.kinds.specs.KindNames.{is_byte, kind_of}
 use Rattle.kinds.specs.declared.name.KindName.{KindName}
 use Rattle.kinds.specs.declared.name.KindName.TheVariants.{Batch, Choice}
@@ -32,22 +32,16 @@ number_only ds n e = option_and_then_some below_256 (read_decimal ds) n e found
 number_back : (n : ℕ) → n < 256 → number_of (decimal n) ≡ Some n
 number_back n h = ap (option_and_then below_256) (back_decimal n (omega arith)) ∙ cond-true _ _ _ (lt-ltb n 256 h)
 
-digits : IsNumeralModel (λ ds. all_ascii_digits ds ≡ true) (value 10)
-digits = numerals_by_value _ tells_all_ascii_digits
-
 decimal_free : (n : ℕ) → n < 256 → NoComma (decimal n)
 decimal_free n h k inside c =
-    let digit = digit_at (decimal n) k (digits.to (decimal n) (decimal_digits n (omega arith))) inside in
+    let digit = digit_at (decimal n) k (decimal_is_IsNumeral n (omega arith)).0.1 inside in
     omega (arith, digit, c)
 
 -- kinds
-byte_alone : (b : ℕ) (text : List ℕ) → length text ≡ 1 → get_or text 0 0 ≡ b → text ≡ b ∷ []
-byte_alone b [] one is = absurd (omega arith)
-byte_alone b (x ∷ []) one is = ap (λ y. y ∷ []) is
-byte_alone b (x ∷ y ∷ more) one is = absurd (omega arith)
-
 one_byte : (b : ℕ) (text : List ℕ) → is_byte b text ≡ true → text ≡ b ∷ []
-one_byte b text e = let p = and_parts (eqb (length text) 1) (eqb (get_or text 0 0) b) e in byte_alone b text (eqb-true _ _ p.0) (eqb-true _ _ p.1)
+one_byte b [] e = cc
+one_byte b (x ∷ []) e = ap (λ y. y ∷ []) (eqb-true x b e)
+one_byte b (x ∷ y ∷ more) e = absurd (omega (arith, eqb-true _ _ (and_parts (eqb (length (x ∷ y ∷ more)) 1) (eqb x b) e).0))
 
 kind_only : (text : List ℕ) (k : KindName) → kind_of text ≡ Some k → text ≡ kind_text k
 kind_only text k =

@@ -3,7 +3,7 @@ use Rattle.std.proofs.Common.{◌≡◌, ℕ, ◌+◌, ◌<◌, ◌≤◌, true,
 use Rattle.std.proofs.lemmas.Bool.{and_from, eq-eqb, lt-ltb, leb-true, cond-true}
 use Rattle.std.proofs.lemmas.Option.{cond_some}
 use Rattle.script.specs.Fields.{field_end, field_at, Placed}
-use Rattle.script.specs.Shapes.{are_two, two_fields}
+use Rattle.script.specs.Shapes.{are_two, first_field, second_field, two_fields}
 use Rattle.script.proofs.FieldLaws.{field}
 
 -- a field that is found starts within the line, and is the one there
@@ -25,4 +25,5 @@ two_found text first second p q last =
     let inside : field_end text 0 < length text = omega (arith, found_within text _ second q') in
     let e : field_end text (field_end text 0 + 1) ≡ length text = sym (ap (λ f. f.end) b) ∙ last in
     let two : are_two text ≡ true = and_from _ _ (lt-ltb _ _ inside) (eq-eqb _ _ e) in
-    ap (λ f. Some (f.bytes, second.bytes)) a ∙ ap (λ f. Some ((field text 0).bytes, f.bytes)) b ∙ sym (cond-true _ _ _ two)
+    let found : two_fields text ≡ Some (first_field text, second_field text) = cond-true _ _ _ two in
+    cc

@@ -1,5 +1,6 @@
 -- The number of each refusal of a line, and an answer with its refusal as a number.
-use Rattle.std.specs.Prelude.{◌≡◌, ℕ, Ok, Err, Result}
+use Rattle.std.specs.Prelude.{◌≡◌, ℕ, Result}
+use Rattle.std.specs.Result.{result_map_both}
 use Rattle.script.specs.declared.refusal.LineRefusal.{LineRefusal}
 use Rattle.script.specs.declared.refusal.LineRefusal.TheVariants.{Shape, BeforeOpen, OpenAgain, NoValue, BadValue}
 
@@ -16,5 +17,4 @@ line_refusal_number NoValue = 16
 line_refusal_number BadValue = 17
 
 abbrev pub line_numbered : {X : Type 0} → Result X LineRefusal → Result X ℕ
-line_numbered (Ok x) = Ok x
-line_numbered (Err e) = Err (line_refusal_number e)
+line_numbered answer = result_map_both (λ x. x) line_refusal_number answer

@@ -2,6 +2,7 @@
 -- The first of these that holds refuses it: another shape (13); no O, and none was accepted (14); an O, and one was accepted (15); an empty value (16); a value that is no text of the kind (17).
 use Rattle.std.specs.Prelude.{ℕ, cond, List, length, Some, None, Ok, Err, Option, Result, ◌==◌}
 use Rattle.std.specs.Option.{option_map, ok_or}
+use Rattle.std.specs.Result.{result_ok}
 use Rattle.calls.specs.declared.call.Call.{Call}
 use Rattle.calls.specs.declared.call.Call.TheVariants.{Propose, Step}
 use Rattle.calls.specs.declared.hint.Hint.TheVariants.{Go, Wait}
@@ -15,11 +16,7 @@ use Rattle.script.specs.Shapes.{Asked, opens, proposes, goes, waits, follows, su
 -- before an O is accepted
 abbrev pub opening_of : Asked → Result Opening ℕ
 opening_of (opens n k) = Ok (record { workers = n; kind = k })
-opening_of (proposes i value) = Err (line_refusal_number BeforeOpen)
-opening_of (goes i) = Err (line_refusal_number BeforeOpen)
-opening_of (waits i) = Err (line_refusal_number BeforeOpen)
-opening_of (follows i leader) = Err (line_refusal_number BeforeOpen)
-opening_of (suspects i mask) = Err (line_refusal_number BeforeOpen)
+opening_of another = Err (line_refusal_number BeforeOpen)
 
 module _ {V : Type 0} (of_text : List ℕ → Option V) where
   -- an empty value is refused before it is read as one of the kind
@@ -61,8 +58,7 @@ head_of (follows i leader) = head_with 76 (Some i)
 head_of (suspects i mask) = head_with 83 (Some i)
 
 abbrev pub head_if : Result Asked ℕ → Option Head
-head_if (Ok a) = Some (head_of a)
-head_if (Err e) = None
+head_if shape = option_map head_of (result_ok shape)
 
 -- of another shape there is none
 abbrev pub head_line : List ℕ → Option Head

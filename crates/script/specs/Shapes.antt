@@ -1,6 +1,7 @@
 -- The shapes of script lines, and what a line of each asks.
-use Rattle.std.specs.Prelude.{ℕ, ◌+◌, Bool, cond, ◌&&◌, List, length, drop, Some, None, Ok, Err, Option, Result, ◌==◌, nat_le, nat_lt, slice_index}
+use Rattle.std.specs.Prelude.{ℕ, ◌+◌, Bool, cond, ◌&&◌, List, length, drop, Some, None, Option, Result, ◌==◌, nat_le, nat_lt, slice_index}
 use Rattle.std.specs.Option.{option_and_then, option_map, option_zip, ok_or}
+use Rattle.std.specs.Result.{result_map_both}
 use Rattle.decimals.specs.Decimals.{read_decimal}
 use Rattle.kinds.specs.KindNames.{kind_of}
 use Rattle.kinds.specs.declared.name.KindName.{KindName}
@@ -85,5 +86,4 @@ line_of bytes = ok_or (whole_line bytes) (line_refusal_number Shape)
 
 -- what the parser answers, as plain data
 abbrev pub asked_answer : Result Line LineRefusal → Result Asked ℕ
-asked_answer (Ok line) = Ok (asked line)
-asked_answer (Err e) = Err (line_refusal_number e)
+asked_answer answer = result_map_both asked line_refusal_number answer
