@@ -3,8 +3,8 @@ use Rattle.std.proofs.Common.{◌≡◌, ℕ, ◌+◌, ◌-◌, ◌≤◌, List,
 use Rattle.std.specs.Prelude.{position, unwrap_or, slice_range}
 use Rattle.std.proofs.lemmas.List.{take_all}
 use Rattle.std.proofs.lemmas.List.Sums.{prefix_len-le-length, fails_before_first, passes_at_first}
-use Rattle.std.proofs.lemmas.Bool.{eqb-true, eqb-false, cond_both, cond-true, le-leb, ltb-false}
-use Rattle.script.specs.Fields.{is_comma, before_comma, field_end, field_at, part, Placed, Parted}
+use Rattle.std.proofs.lemmas.Bool.{eqb-true, eqb-false, cond_both, ltb-false}
+use Rattle.script.specs.Fields.{is_comma, before_comma, field_end, Parted}
 
 pub before_within : (text : List ℕ) → before_comma text ≤ length text
 before_within text = prefix_len-le-length _ text
@@ -18,13 +18,6 @@ before_found text =
 -- as `field_at` finds it: the first comma of what is left of the line, or else its end
 pub end_found : (line rest : List ℕ) (start : ℕ) → rest ≡ slice_range line start (length line) → start + unwrap_or (position is_comma rest) (length rest) ≡ field_end line start
 end_found line rest start e = ap (λ n. start + n) (before_found rest ∙ ap before_comma (e ∙ take_all _ (drop start line) (omega (arith, length-drop start line))))
-
--- the field that starts there
-abbrev pub field : List ℕ → ℕ → Placed
-field line start = record { start = start; end = field_end line start; bytes = part line start (field_end line start) }
-
-pub field_is : (line : List ℕ) (start : ℕ) → start ≤ length line → field_at line start ≡ Some (field line start)
-field_is line start inside = cond-true _ _ _ (le-leb _ _ inside)
 
 pub parted : (line : List ℕ) (start : ℕ) → start ≤ length line → Parted line start (field_end line start)
 parted line start h =

@@ -22,11 +22,7 @@ fn two_fields(text: &[u8]) -> Option<(&[u8], &[u8])>
 {
     let first = field_at(text, 0)?;
     let second = field_at(text, first.end + 1)?;
-    if second.end == text.len() {
-        Some((first.bytes, second.bytes))
-    } else {
-        None
-    }
+    (second.end == text.len()).then_some((first.bytes, second.bytes))
 }
 
 fn two_numbers(text: &[u8]) -> Option<(u8, u8)>
