@@ -1,6 +1,5 @@
 -- A line asks what its text says, and a text that says it is read so.
 use Rattle.std.proofs.Common.{◌≡◌, ℕ, zero, suc, ◌<◌, ◌≤◌, true, cond, ◌&&◌, eqb, leb, ltb, List, [], ◌∷◌, ◌++◌, length, get_or, drop, Some, None, Ok, decimal, Option, sym, refl, ap, ◌∙◌, subst, arith}
-use Rattle.std.specs.Str.Parse.{digits_value as value}
 use Rattle.std.proofs.lemmas.Fmt.{decimal_is_IsNumeral}
 use Rattle.std.proofs.lemmas.Str.Parse.{digit_at}
 use Rattle.std.proofs.lemmas.Bool.{and_from, and_parts, eqb-true, le-leb, leb-true, lt-ltb, ltb-true, cond-true, cond_both}
@@ -97,15 +96,15 @@ one_only letter ask text fit rest a e =
     subst (Says letter rest) m.2 (ap (λ r. letter ∷ comma ∷ r) n.0 ∙ text m.0, fit m.0 n.1)
 
 -- two numbers
-pub record Numbers (rest : List ℕ) (i n : ℕ) : Type 0 where
+pub record TwoNumbers (rest : List ℕ) (i n : ℕ) : Type 0 where
   pub whole : rest ≡ decimal i ++ (comma ∷ decimal n)
   pub first : i < 256
   pub second : n < 256
 
-numbers_only : (rest : List ℕ) (p : ℕ × ℕ) → numbers_of (two_fields rest) ≡ Some p → Numbers rest p.0 p.1
+numbers_only : (rest : List ℕ) (p : ℕ × ℕ) → numbers_of (two_fields rest) ≡ Some p → TwoNumbers rest p.0 p.1
 numbers_only rest p = by (two_fields rest) refl
   where
-    by : (o : Option (List ℕ × List ℕ)) → two_fields rest ≡ o → numbers_of o ≡ Some p → Numbers rest p.0 p.1
+    by : (o : Option (List ℕ × List ℕ)) → two_fields rest ≡ o → numbers_of o ≡ Some p → TwoNumbers rest p.0 p.1
     by None e q = absurd (none-some p q)
     by (Some (x, y)) e q =
         let z = zip_some (number_of x) (number_of y) p q in
