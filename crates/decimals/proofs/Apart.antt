@@ -1,5 +1,6 @@
 -- An absent value is no value.
-use Rattle.std.proofs.Common.{◌≡◌, ℕ, Some, None, arith}
+use Rattle.std.proofs.Common.{◌≡◌, Some, None}
+use Rattle.std.proofs.lemmas.Option.{none-some}
 
 pub none_some : {X : Type 0} {x : X} → None ≡ Some x → ⊥
-none_some e = let z : ◌≡◌ {A = ℕ} 0 1 = cc in omega arith
+none_some e = none-some _ e

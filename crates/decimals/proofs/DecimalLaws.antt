@@ -1,15 +1,15 @@
 -- What is read in decimal is what `decimal` writes, and is read back.
-use Rattle.std.proofs.Common.{◌≡◌, ℕ, ◌^◌, ◌<◌, Bool, true, false, cond, ◌&&◌, ltb, ◌⊎◌, List, [], ◌∷◌, length, get_or, Some, None, Ok, Err, IsUtf8, decimal, Result, sym, ap, ◌∙◌, inl, inr, arith}
+use Rattle.std.proofs.Common.{◌≡◌, ℕ, ◌^◌, ◌<◌, Bool, true, false, ◌&&◌, ltb, ◌⊎◌, List, [], ◌∷◌, length, get_or, Some, None, Ok, Err, IsUtf8, decimal, Result, sym, ap, ◌∙◌, inl, inr, arith}
 use Rattle.std.specs.Result.{OkIff, result_ok}
 use Rattle.std.specs.Str.Parse.{digits_value, ParsesUnsigned}
 use Rattle.std.specs.Str.{all_ascii_digits}
 use Rattle.std.proofs.lemmas.Fmt.{decimal-digits_value, digits_decimal, digits_value-decimal, decimal_nonempty, first_decimal, decimal_digit, IsAscii-from_digits}
+use Rattle.std.proofs.lemmas.Option.{cond_some}
 use Rattle.std.proofs.lemmas.Str.Parse.{IsNumeralModel, numerals_by_value, tells_all_ascii_digits, digit_at, parse_plain}
-use Rattle.std.proofs.lemmas.Bool.{and_parts, and_from, both_ways, cases_Bool, cases_eq, cond-true, cond-false, false≢true, lt-ltb, ltb-true}
+use Rattle.std.proofs.lemmas.Bool.{and_from, both_ways, cases_eq, cond-true, cond-false, false_from_ne_true, lt-ltb}
 use Rattle.std.proofs.lemmas.Str.{IsUtf8-from_ascii}
 use Rattle.std.proofs.lemmas.Bool.Decides.{nat_tests}
 use Rattle.decimals.specs.Decimals.{begins, read_decimal}
-use Rattle.decimals.proofs.Apart.{none_some}
 
 own : IsNumeralModel (λ ds. all_ascii_digits ds ≡ true) (digits_value 10)
 own = numerals_by_value _ tells_all_ascii_digits
@@ -24,24 +24,21 @@ read_some ds = cond-true (reads ds) (Some (digits_value 10 ds)) None
 
 read_none : (ds : List ℕ) → (reads ds ≡ true → ⊥) → read_decimal ds ≡ None
 unfolding read_decimal
-read_none ds no_read = by (cases_Bool (reads ds))
-  where
-    by : ((reads ds ≡ true) ⊎ (reads ds ≡ false)) → cond (reads ds) (Some (digits_value 10 ds)) None ≡ None
-    by (inl e) = absurd (no_read e)
-    by (inr e) = cond-false (reads ds) (Some (digits_value 10 ds)) None e
+read_none ds no_read = cond-false (reads ds) (Some (digits_value 10 ds)) None (false_from_ne_true (reads ds) no_read)
+
+some_read : (ds : List ℕ) (n : ℕ) → read_decimal ds ≡ Some n → (reads ds ≡ true) × (digits_value 10 ds ≡ n)
+unfolding read_decimal
+some_read ds n = cond_some (reads ds) (digits_value 10 ds) n
 
 parts : (ds : List ℕ) → reads ds ≡ true → (begins ds ≡ true) × (all_ascii_digits ds ≡ true) × (digits_value 10 ds < 2 ^ 64)
-parts ds e =
-    let outer = and_parts (begins ds) (all_ascii_digits ds && ltb (digits_value 10 ds) (2 ^ 64)) e in
-    let inner = and_parts (all_ascii_digits ds) (ltb (digits_value 10 ds) (2 ^ 64)) outer.1 in
-    (outer.0, inner.0, ltb-true (digits_value 10 ds) (2 ^ 64) inner.1)
+parts ds e = grind (arith, nat_tests)
 
 whole : (ds : List ℕ) → begins ds ≡ true → all_ascii_digits ds ≡ true → digits_value 10 ds < 2 ^ 64 → reads ds ≡ true
 whole ds b d small = and_from (begins ds) _ b (and_from (all_ascii_digits ds) _ d (lt-ltb (digits_value 10 ds) (2 ^ 64) small))
 
 -- a text that begins well is not empty, and has no leading zero
 begins_some : (ds : List ℕ) → begins ds ≡ true → 0 < length ds
-begins_some [] e = absurd (false≢true e)
+begins_some [] e = cc
 begins_some (d ∷ ds) e = omega arith
 
 begins_zero : (ds : List ℕ) → begins ds ≡ true → get_or ds 0 0 ≡ 48 → length ds ≡ 1
@@ -51,19 +48,15 @@ begins_digit : (ds : List ℕ) → begins ds ≡ true → get_or ds 0 0 ≡ 43 �
 begins_digit ds e z = grind (arith, nat_tests)
 
 pub only_decimal : (ds : List ℕ) (n : ℕ) → read_decimal ds ≡ Some n → ds ≡ decimal n
-only_decimal ds n e = by (cases_Bool (reads ds))
-  where
-    by : ((reads ds ≡ true) ⊎ (reads ds ≡ false)) → ds ≡ decimal n
-    by (inl t) =
-        let p = parts ds t in
-        let same : digits_value 10 ds ≡ n = let s = read_some ds t in cc in
-        sym (decimal-digits_value own ds p.1 (begins_some ds p.0) (begins_zero ds p.0) p.2) ∙ ap decimal same
-    by (inr f) = absurd (none_some (sym (read_none ds (both_ways (reads ds) f)) ∙ e))
+only_decimal ds n e =
+    let r = some_read ds n e in
+    let p = parts ds r.0 in
+    sym (decimal-digits_value own ds p.1 (begins_some ds p.0) (begins_zero ds p.0) p.2) ∙ ap decimal r.1
 
 pub decimal_digits : (n : ℕ) → n < 2 ^ 64 → all_ascii_digits (decimal n) ≡ true
 decimal_digits = digits_decimal own
 
-begins_decimal : (n : ℕ) → n < 2 ^ 64 → begins (decimal n) ≡ true
+pub begins_decimal : (n : ℕ) → n < 2 ^ 64 → begins (decimal n) ≡ true
 begins_decimal n h = by (cases_eq n 0)
   where
     by : ((n ≡ 0) ⊎ (n ≡ 0 → ⊥)) → begins (decimal n) ≡ true
@@ -92,3 +85,5 @@ not_text ds no_text = sym (read_none ds (λ e. no_text (IsUtf8-from_ascii ds (Is
 
 pub not_begun : (ds : List ℕ) → begins ds ≡ false → None ≡ read_decimal ds
 not_begun ds f = sym (read_none ds (λ e. both_ways (begins ds) f (parts ds e).0))
+
+pub ruleset read_steps = (not_begun, not_text, parsed, only_decimal, back_decimal, begins_decimal)

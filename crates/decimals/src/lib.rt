@@ -8,14 +8,11 @@ ghost use Rattle.decimals.specs.Decimals.{begins, read_decimal};
 fn begins_well(text: &[u8]) -> bool
     ensures { result ≡ begins text.now }
 {
-    match text {
-        [b'0'] => true,
-        [b'1'..=b'9', ..] => true,
-        _ => false,
-    }
+    matches!(text, [b'0'] | [b'1'..=b'9', ..])
 }
 
 // The number that `text` writes, where it fits 64 bits.
+#[tactic(auto, using(crate::proofs::DecimalLaws::read_steps))]
 pub fn read_decimal(text: &[u8]) -> Option<u64>
     ensures value { result ≡ read_decimal text.now }
     ensures only { (n : ℕ) → result ≡ Some n → text.now ≡ decimal n }
@@ -24,8 +21,6 @@ pub fn read_decimal(text: &[u8]) -> Option<u64>
     if !begins_well(text) {
         return None;
     }
-    match std::str::from_utf8(text) {
-        Ok(digits) => digits.parse::<u64>().ok(),
-        Err(_) => None,
-    }
+    let digits = std::str::from_utf8(text).ok()?;
+    digits.parse().ok()
 }

@@ -1,5 +1,4 @@
-pub mod Apart
 pub mod FieldLaws
 pub mod LineLaws
-pub mod ShapeLaws
+pub mod Options
 pub mod TwoFields

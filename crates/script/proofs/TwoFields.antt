@@ -1,13 +1,14 @@
 -- Two fields and the comma between them make the text, and only so.
-use Rattle.std.proofs.Common.{◌≡◌, ℕ, suc, ◌+◌, ◌-◌, ◌<◌, true, eqb, ltb, List, [], ◌∷◌, ◌++◌, length, get_or, take, drop, Some, None, Option, sym, refl, ap, ◌∙◌, subst, arith, length-append, length-drop, take-append-drop, length-take, get_or-drop, get_or-take}
-use native.Mathlib.Nat.{min-le_left}
-use lib.Seq.{take-append_seam, drop-append-add}
-use Rattle.std.proofs.lemmas.List.{drop_more, take_all}
-use Rattle.std.proofs.lemmas.Bool.{and_from, and_parts, eq-eqb, eqb-true, ne_eqb, lt-ltb, ltb-true, cond-true, cond-false, cond_both}
-use Rattle.script.specs.Fields.{comma, before_comma, field_end}
+use Rattle.std.proofs.Common.{◌≡◌, ℕ, ◌+◌, ◌-◌, ◌<◌, true, eqb, ltb, List, ◌∷◌, ◌++◌, length, take, drop, Some, Option, sym, ap, ◌∙◌, subst, arith, length-append, length-drop, length-take, get_or-drop, get_or-take}
+use Rattle.std.proofs.Math.Seq.{take-append_seam, drop-append-add, get_or-append_seam}
+use Rattle.std.proofs.lemmas.List.Sums.{split_at_first, passes_at_first, position_or_len_is}
+use Rattle.std.specs.List.{before_first, after_first}
+use Rattle.std.proofs.lemmas.List.{take_all, get_or_append_left}
+use Rattle.std.proofs.lemmas.Bool.{and_from, and_parts, eq-eqb, eqb-true, ne_eqb, lt-ltb, ltb-true, cond-true}
+use Rattle.script.specs.Fields.{comma, is_comma, before_comma, field_end}
 use Rattle.script.specs.Shapes.{are_two, first_field, second_field, two_fields}
 use Rattle.script.specs.LineTexts.{NoComma}
-use Rattle.script.proofs.Apart.{none_some}
+use Rattle.std.proofs.lemmas.Option.{cond_some}
 use Rattle.script.proofs.FieldLaws.{parted}
 
 pub record Two (text a b : List ℕ) : Type 0 where
@@ -26,18 +27,16 @@ module _ (text : List ℕ) (inside : field_end text 0 < length text) (last : fie
   second_is : second_field text ≡ drop (field_end text 0 + 1) text
   second_is = take_all _ (drop (field_end text 0 + 1) text) (omega (arith, length-drop (field_end text 0 + 1) text, last))
 
-  at_comma : get_or text (field_end text 0) 0 ≡ comma
-  at_comma = (parted text 0 (omega arith)).ends inside
-
   joined : text ≡ take (field_end text 0) text ++ (comma ∷ drop (field_end text 0 + 1) text)
   joined =
-      sym (take-append-drop (field_end text 0) text)
-      ∙ ap (λ t. take (field_end text 0) text ++ t) (drop_more text (field_end text 0) 0 inside)
-      ∙ ap (λ c. take (field_end text 0) text ++ (c ∷ drop (field_end text 0 + 1) text)) at_comma
+      let within : before_comma text < length text = omega arith in
+      let split = split_at_first is_comma text 0 within ∙ ap (λ c. before_first is_comma text ++ (c ∷ after_first is_comma text)) (eqb-true _ _ (passes_at_first is_comma text 0 within)) in
+      let at_start : before_comma text ≡ field_end text 0 = omega arith in
+      subst (λ n. text ≡ take n text ++ (comma ∷ drop (n + 1) text)) at_start split
 
   free_first : NoComma (take (field_end text 0) text)
   free_first k h c =
-      let short : k < field_end text 0 = omega (arith, length-take (field_end text 0) text, min-le_left (field_end text 0) (length text)) in
+      let short : k < field_end text 0 = omega (arith, length-take (field_end text 0) text) in
       (parted text 0 (omega arith)).no_comma k (omega arith) short (sym (get_or-take (field_end text 0) text k 0 short) ∙ c)
 
   free_second : NoComma (drop (field_end text 0 + 1) text)
@@ -54,24 +53,21 @@ module _ (text : List ℕ) (inside : field_end text 0 < length text) (last : fie
   }
 
 pub two_only : (text a b : List ℕ) → two_fields text ≡ pair a b → Two text a b
-two_only text a b = cond_both (are_two text) (pair (first_field text) (second_field text)) None (λ o. o ≡ pair a b → Two text a b) found (λ _ e. absurd (none_some e))
-  where
-    found : are_two text ≡ true → pair (first_field text) (second_field text) ≡ pair a b → Two text a b
-    found t e =
-        let p : (ltb (field_end text 0) (length text) ≡ true) × (eqb (field_end text (field_end text 0 + 1)) (length text) ≡ true) = and_parts _ _ t in
-        let same : ◌≡◌ {A = List ℕ × List ℕ} (first_field text, second_field text) (a, b) = cc in
-        let first : first_field text ≡ a = ap (λ (q : List ℕ × List ℕ). q.0) same in
-        let second : second_field text ≡ b = ap (λ (q : List ℕ × List ℕ). q.1) same in
-        subst (Two text a) second (subst (λ x. Two text x (second_field text)) first (two_parts text (ltb-true _ _ p.0) (eqb-true _ _ p.1)))
+two_only text a b e =
+    let c = cond_some (are_two text) (first_field text, second_field text) (a, b) e in
+    let p = and_parts (ltb (field_end text 0) (length text)) (eqb (field_end text (field_end text 0 + 1)) (length text)) c.0 in
+    let two = two_parts text (ltb-true _ _ p.0) (eqb-true _ _ p.1) in
+    subst (λ (q : List ℕ × List ℕ). Two text q.0 q.1) c.1 two
 
 -- from two fields
 all_free : (b : List ℕ) → NoComma b → before_comma b ≡ length b
-all_free [] free = refl
-all_free (x ∷ xs) free = cond-false _ _ _ (ne_eqb x comma (free 0 (omega arith))) ∙ ap suc (all_free xs (λ k h. free (suc k) (omega arith)))
+all_free b free = position_or_len_is is_comma b (length b) 0 (omega arith) (λ k h. ne_eqb _ _ (free k h)) (λ h. absurd (omega arith))
 
 front_free : (a b : List ℕ) → NoComma a → before_comma (a ++ (comma ∷ b)) ≡ length a
-front_free [] b free = refl
-front_free (x ∷ xs) b free = cond-false _ _ _ (ne_eqb x comma (free 0 (omega arith))) ∙ ap suc (front_free xs b (λ k h. free (suc k) (omega arith)))
+front_free a b free =
+    position_or_len_is is_comma (a ++ (comma ∷ b)) (length a) 0 (omega (arith, length-append a (comma ∷ b)))
+    (λ k h. ne_eqb _ _ (λ e. free k h (sym (get_or_append_left a (comma ∷ b) 0 k h) ∙ e)))
+    (λ _. eq-eqb _ _ (get_or-append_seam a comma b 0))
 
 module _ (a b : List ℕ) (free_a : NoComma a) (free_b : NoComma b) where
   abbrev text : List ℕ

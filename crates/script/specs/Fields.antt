@@ -1,14 +1,17 @@
 -- The fields of a line: what stands between two commas, before the first or after the last.
-use Rattle.std.specs.Prelude.{◌≡◌, ℕ, suc, ◌+◌, ◌<◌, ◌≤◌, cond, List, [], ◌∷◌, length, drop, Some, None, Option, ◌==◌, ◌≢◌, nat_le, slice_index, slice_range}
+use Rattle.std.specs.Prelude.{◌≡◌, ℕ, ◌+◌, ◌<◌, ◌≤◌, Bool, cond, List, length, drop, Some, None, Option, ◌==◌, ◌≢◌, nat_le, slice_index, slice_range}
+use Rattle.std.specs.List.{position_or_len}
 use Rattle.script.specs.declared.fields.Field.{Field}
 
 abbrev pub comma : ℕ
 comma = 44
 
+abbrev pub is_comma : ℕ → Bool
+is_comma byte = byte == comma
+
 -- how many bytes there are before the first comma, or in all
 abbrev pub before_comma : List ℕ → ℕ
-before_comma [] = 0
-before_comma (b ∷ bs) = cond (b == comma) 0 (suc (before_comma bs))
+before_comma text = position_or_len is_comma text
 
 -- the first comma there or later ends the field, or the end of the line
 abbrev pub field_end : List ℕ → ℕ → ℕ

@@ -1,6 +1,8 @@
 -- What a line asks for, before an O is accepted and after it, and what its answer repeats of it.
 -- The first of these that holds refuses it: another shape (13); no O, and none was accepted (14); an O, and one was accepted (15); an empty value (16); a value that is no text of the kind (17).
 use Rattle.std.specs.Prelude.{ℕ, cond, List, length, Some, None, Ok, Err, Option, Result, ◌==◌}
+use Rattle.std.specs.Option.{option_map, ok_or}
+use Rattle.std.specs.Result.{result_ok}
 use Rattle.calls.specs.declared.call.Call.{Call}
 use Rattle.calls.specs.declared.call.Call.TheVariants.{Propose, Step}
 use Rattle.calls.specs.declared.hint.Hint.TheVariants.{Go, Wait}
@@ -14,20 +16,12 @@ use Rattle.script.specs.Shapes.{Asked, opens, proposes, goes, waits, follows, su
 -- before an O is accepted
 abbrev pub opening_of : Asked → Result Opening ℕ
 opening_of (opens n k) = Ok (record { workers = n; kind = k })
-opening_of (proposes i value) = Err (line_refusal_number BeforeOpen)
-opening_of (goes i) = Err (line_refusal_number BeforeOpen)
-opening_of (waits i) = Err (line_refusal_number BeforeOpen)
-opening_of (follows i leader) = Err (line_refusal_number BeforeOpen)
-opening_of (suspects i mask) = Err (line_refusal_number BeforeOpen)
+opening_of another = Err (line_refusal_number BeforeOpen)
 
 module _ {V : Type 0} (of_text : List ℕ → Option V) where
-  abbrev pub kind_call : ℕ → Option V → Result (Call V) ℕ
-  kind_call i None = Err (line_refusal_number BadValue)
-  kind_call i (Some v) = Ok (Propose i v)
-
   -- an empty value is refused before it is read as one of the kind
   abbrev pub value_call : ℕ → List ℕ → Result (Call V) ℕ
-  value_call i value = cond (length value == 0) (Err (line_refusal_number NoValue)) (kind_call i (of_text value))
+  value_call i value = cond (length value == 0) (Err (line_refusal_number NoValue)) (ok_or (option_map (Propose i) (of_text value)) (line_refusal_number BadValue))
 
   -- after an O for n workers
   abbrev pub call_of : ℕ → Asked → Result (Call V) ℕ
@@ -64,8 +58,7 @@ head_of (follows i leader) = head_with 76 (Some i)
 head_of (suspects i mask) = head_with 83 (Some i)
 
 abbrev pub head_if : Result Asked ℕ → Option Head
-head_if (Ok a) = Some (head_of a)
-head_if (Err e) = None
+head_if shape = option_map head_of (result_ok shape)
 
 -- of another shape there is none
 abbrev pub head_line : List ℕ → Option Head

@@ -1,5 +1,7 @@
 -- The shapes of script lines, and what a line of each asks.
-use Rattle.std.specs.Prelude.{ℕ, ◌+◌, Bool, cond, ◌&&◌, List, length, drop, Some, None, Ok, Err, Option, Result, ◌==◌, nat_le, nat_lt, slice_index}
+use Rattle.std.specs.Prelude.{ℕ, ◌+◌, Bool, cond, ◌&&◌, List, length, drop, Some, None, Option, Result, ◌==◌, nat_le, nat_lt, slice_index}
+use Rattle.std.specs.Option.{option_and_then, option_map, option_zip, ok_or}
+use Rattle.std.specs.Result.{result_map_both}
 use Rattle.decimals.specs.Decimals.{read_decimal}
 use Rattle.kinds.specs.KindNames.{kind_of}
 use Rattle.kinds.specs.declared.name.KindName.{KindName}
@@ -28,12 +30,8 @@ asked (Leader i leader) = follows i leader
 asked (Suspects i mask) = suspects i mask
 
 -- a number from 0 to 255
-abbrev pub small : Option ℕ → Option ℕ
-small None = None
-small (Some n) = cond (nat_lt n 256) (Some n) None
-
 abbrev pub number_of : List ℕ → Option ℕ
-number_of field = small (read_decimal field)
+number_of field = option_and_then (λ n. cond (nat_lt n 256) (Some n) None) (read_decimal field)
 
 -- The first field ends at a comma, and the one behind that comma ends at the end: there are two.
 abbrev pub are_two : List ℕ → Bool
@@ -49,49 +47,27 @@ abbrev pub two_fields : List ℕ → Option (List ℕ × List ℕ)
 two_fields rest = cond (are_two rest) (Some (first_field rest, second_field rest)) None
 
 -- The rules of the letters, by their fields: `O,n,kind`, `P,i,value`, and one or two numbers behind the other letters.
-abbrev pub opens_if : Option ℕ → Option KindName → Option Asked
-opens_if None kind = None
-opens_if (Some n) None = None
-opens_if (Some n) (Some kind) = Some (opens n kind)
-
 abbrev pub open_of : Option (List ℕ × List ℕ) → Option Asked
 open_of None = None
-open_of (Some (n, kind)) = opens_if (number_of n) (kind_of kind)
-
-abbrev pub proposes_if : Option ℕ → List ℕ → Option Asked
-proposes_if None value = None
-proposes_if (Some i) value = Some (proposes i value)
+open_of (Some (n, kind)) = option_map (λ p. opens p.0 p.1) (option_zip (number_of n) (kind_of kind))
 
 abbrev pub propose_of : Option (List ℕ × List ℕ) → Option Asked
 propose_of None = None
-propose_of (Some (i, value)) = proposes_if (number_of i) value
-
-abbrev pub one_number : (ℕ → Asked) → Option ℕ → Option Asked
-one_number ask None = None
-one_number ask (Some i) = Some (ask i)
-
-abbrev pub two_numbers : Option ℕ → Option ℕ → Option (ℕ × ℕ)
-two_numbers None n = None
-two_numbers (Some i) None = None
-two_numbers (Some i) (Some n) = Some (i, n)
+propose_of (Some (i, value)) = option_map (λ n. proposes n value) (number_of i)
 
 abbrev pub numbers_of : Option (List ℕ × List ℕ) → Option (ℕ × ℕ)
 numbers_of None = None
-numbers_of (Some (i, n)) = two_numbers (number_of i) (number_of n)
-
-abbrev pub asks_both : (ℕ → ℕ → Asked) → Option (ℕ × ℕ) → Option Asked
-asks_both ask None = None
-asks_both ask (Some (i, n)) = Some (ask i n)
+numbers_of (Some (i, n)) = option_zip (number_of i) (number_of n)
 
 -- What a letter asks with what stands behind its comma. In ASCII, O is 79, P 80, G 71, W 87, L 76 and S 83; another letter is another shape.
 abbrev pub shape : ℕ → List ℕ → Option Asked
 shape letter rest =
     cond (letter == 79) (open_of (two_fields rest))
     (cond (letter == 80) (propose_of (two_fields rest))
-    (cond (letter == 71) (one_number goes (number_of rest))
-    (cond (letter == 87) (one_number waits (number_of rest))
-    (cond (letter == 76) (asks_both follows (numbers_of (two_fields rest)))
-    (cond (letter == 83) (asks_both suspects (numbers_of (two_fields rest)))
+    (cond (letter == 71) (option_map goes (number_of rest))
+    (cond (letter == 87) (option_map waits (number_of rest))
+    (cond (letter == 76) (option_map (λ p. follows p.0 p.1) (numbers_of (two_fields rest)))
+    (cond (letter == 83) (option_map (λ p. suspects p.0 p.1) (numbers_of (two_fields rest)))
     None)))))
 
 abbrev pub max_line : ℕ
@@ -105,14 +81,9 @@ is_line bytes = nat_le (length bytes) max_line && (nat_le 2 (length bytes) && sl
 abbrev pub whole_line : List ℕ → Option Asked
 whole_line bytes = cond (is_line bytes) (shape (slice_index bytes 0) (drop 2 bytes)) None
 
-abbrev pub or_refused : Option Asked → Result Asked ℕ
-or_refused None = Err (line_refusal_number Shape)
-or_refused (Some a) = Ok a
-
 abbrev pub line_of : List ℕ → Result Asked ℕ
-line_of bytes = or_refused (whole_line bytes)
+line_of bytes = ok_or (whole_line bytes) (line_refusal_number Shape)
 
 -- what the parser answers, as plain data
 abbrev pub asked_answer : Result Line LineRefusal → Result Asked ℕ
-asked_answer (Ok line) = Ok (asked line)
-asked_answer (Err e) = Err (line_refusal_number e)
+asked_answer answer = result_map_both asked line_refusal_number answer

@@ -1,25 +1,20 @@
 // The fields of a line, which are parts of the line itself.
-ghost use Rattle.std.specs.Prelude.{◌≡◌, IfSome};
+ghost use Rattle.std.specs.Prelude.{◌≡◌, IfSome, position};
 ghost use Rattle.std.specs.Option.{option_map};
-ghost use Rattle.script.specs.Fields.{field_end, field_at, placed, part_place, Parted};
+ghost use Rattle.script.specs.Fields.{is_comma, field_at, placed, part_place, Parted};
 
 // A field by its bytes and by where it starts and ends in its line.
-#[derive(Clone, Copy)]
+#[derive(Clone, Copy, PartialEq, Eq, Debug)]
 pub struct Field<'a> {
     pub bytes: &'a [u8],
     pub start: usize,
     pub end: usize,
 }
 
-// The place of the first comma from `start` on, or of the line's end.
-fn end_of_field(line: &[u8], start: usize) -> usize
-    ensures { result ≡ field_end line.now start }
+fn first_comma(text: &[u8]) -> Option<usize>
+    ensures { result ≡ position is_comma text.now }
 {
-    let mut end = start;
-    while end < line.len() && line[end] != b',' {
-        end += 1;
-    }
-    end
+    text.iter().position(|byte| *byte == b',')
 }
 
 // The field that starts at `start`, which is no copy. None where the line ends before.
@@ -28,10 +23,8 @@ pub fn field_at(line: &[u8], start: usize) -> Option<Field<'_>>
     ensures part { IfSome result (λ f. f.bytes.ref_ptr ≡ part_place line.entry.ref_ptr start) }
     ensures parted { IfSome result (λ f. Parted line.now f.start f.end) }
 {
-    if start > line.len() {
-        return None;
-    }
-    let end = end_of_field(line, start);
+    let rest = line.get(start..)?;
+    let end = start + first_comma(rest).unwrap_or(rest.len());
     Some(Field {
         bytes: &line[start..end],
         start,

@@ -4,7 +4,7 @@ ghost use Rattle.script.specs.LineRefusals.{line_numbered};
 ghost use Rattle.script.specs.Shapes.{Asked, asked, asked_answer, line_of};
 ghost use Rattle.script.specs.LineTexts.{Writes};
 ghost use Rattle.script.specs.Values.{Lies, behind_comma};
-ghost use Rattle.script.specs.Lines.{opening_of, opening_line, value_call, call_of, call_line, head_with, head_of, head_line};
+ghost use Rattle.script.specs.Lines.{opening_of, opening_line, value_call, call_of, call_line, head_of, head_line};
 ghost use Rattle.calls.specs.declared.call.Call.TheVariants.{Step};
 
 use super::refusal::LineRefusal;
@@ -18,7 +18,7 @@ use kinds::name::KindName;
 pub const MAX_LINE: usize = 40;
 
 // The call that a line names by its letter, with its fields. A value is the part of the line that is its field.
-#[derive(Clone, Copy)]
+#[derive(Clone, Copy, PartialEq, Eq, Debug)]
 pub enum Line<'a> {
     Open { workers: u8, kind: KindName },
     Propose { worker: u8, value: &'a [u8] },
@@ -29,26 +29,17 @@ pub enum Line<'a> {
 }
 
 // What is to be opened.
-#[derive(Clone, Copy)]
+#[derive(Clone, Copy, PartialEq, Eq, Debug)]
 pub struct Opening {
     pub workers: usize,
     pub kind: KindName,
 }
 
 // What the answer to a line repeats of it: its letter, and the number of its worker, if it names one.
-#[derive(Clone, Copy)]
+#[derive(Clone, Copy, PartialEq, Eq, Debug)]
 pub struct Head {
     pub letter: char,
     pub worker: Option<u8>,
-}
-
-fn head_of_worker(letter: char, worker: u8) -> Head
-    ensures { result ≡ head_with letter (Some worker) }
-{
-    Head {
-        letter,
-        worker: Some(worker),
-    }
 }
 
 fn step<V>(worker: u8, hint: Hint) -> Call<V>
@@ -66,13 +57,11 @@ fn proposal<K: Kind>(worker: u8, value: &[u8]) -> Result<Call<K>, LineRefusal>
     if value.is_empty() {
         return Err(LineRefusal::NoValue);
     }
-    match K::from_text(value) {
-        Some(value) => Ok(Call::Propose {
-            worker: usize::from(worker),
-            value,
-        }),
-        None => Err(LineRefusal::BadValue),
-    }
+    let value = K::from_text(value).ok_or(LineRefusal::BadValue)?;
+    Ok(Call::Propose {
+        worker: usize::from(worker),
+        value,
+    })
 }
 
 impl Line<'_> {
@@ -83,10 +72,7 @@ impl Line<'_> {
         ensures back { (a : Asked) → Writes line.now a → asked_answer result ≡ Ok a }
         ensures place { IfOk result (Lies (behind_comma line.entry.ref_ptr line.now 2)) }
     {
-        match read_line(line) {
-            Some(line) => Ok(line),
-            None => Err(LineRefusal::Shape),
-        }
+        read_line(line).ok_or(LineRefusal::Shape)
     }
 
     // What the line opens, where nothing is open yet.
@@ -129,16 +115,14 @@ impl Line<'_> {
         ensures value { result ≡ head_of (asked self.entry) }
         ensures whole { (bytes : List ℕ) → line_of bytes ≡ Ok (asked self.entry) → head_line bytes ≡ Some result }
     {
-        match self {
-            Line::Open { .. } => Head {
-                letter: 'O',
-                worker: None,
-            },
-            Line::Propose { worker, .. } => head_of_worker('P', worker),
-            Line::Go { worker } => head_of_worker('G', worker),
-            Line::Wait { worker } => head_of_worker('W', worker),
-            Line::Leader { worker, .. } => head_of_worker('L', worker),
-            Line::Suspects { worker, .. } => head_of_worker('S', worker),
-        }
+        let (letter, worker) = match self {
+            Line::Open { .. } => ('O', None),
+            Line::Propose { worker, .. } => ('P', Some(worker)),
+            Line::Go { worker } => ('G', Some(worker)),
+            Line::Wait { worker } => ('W', Some(worker)),
+            Line::Leader { worker, .. } => ('L', Some(worker)),
+            Line::Suspects { worker, .. } => ('S', Some(worker)),
+        };
+        Head { letter, worker }
     }
 }

@@ -1,9 +1,7 @@
 // Why a line is refused.
-ghost use Rattle.std.specs.Prelude.{◌≡◌};
-ghost use Rattle.script.specs.declared.refusal.LineRefusal.{LineRefusal};
-ghost use Rattle.script.specs.LineRefusals.{line_refusal_number};
+ghost use Rattle.script.specs.LineRefusals.{Numbers, line_refusal_number};
 
-#[derive(Clone, Copy)]
+#[derive(Clone, Copy, PartialEq, Eq, Debug)]
 pub enum LineRefusal {
     // another shape than that of a line
     Shape,
@@ -17,13 +15,13 @@ pub enum LineRefusal {
     BadValue,
 }
 
-impl LineRefusal {
-    // The number by which users know the refusal; no two have the same.
-    pub fn number(self) -> u8
-        ensures value { result ≡ line_refusal_number self }
-        ensures tells { (other : LineRefusal) → line_refusal_number other ≡ result → other ≡ self }
-    {
-        match self {
+// The number by which users know the refusal; no two have the same. Contracts compare answers by
+// this number and not by the case: the rules are in numbers, and a case may come to hold more.
+impl From<LineRefusal> for u8 {
+    ghost from_gives = { Numbers line_refusal_number };
+
+    fn from(refusal: LineRefusal) -> u8 {
+        match refusal {
             LineRefusal::Shape => 13,
             LineRefusal::BeforeOpen => 14,
             LineRefusal::OpenAgain => 15,

@@ -20,17 +20,9 @@ fn two_fields(text: &[u8]) -> Option<(&[u8], &[u8])>
     ensures value { option_map (λ p. (p.0.now, p.1.now)) result ≡ two_fields text.now }
     ensures place { IfSome result (λ p. p.1.ref_ptr ≡ behind_comma text.entry.ref_ptr text.now 0) }
 {
-    let Some(first) = field_at(text, 0) else {
-        return None;
-    };
-    let Some(second) = field_at(text, first.end + 1) else {
-        return None;
-    };
-    if second.end == text.len() {
-        Some((first.bytes, second.bytes))
-    } else {
-        None
-    }
+    let first = field_at(text, 0)?;
+    let second = field_at(text, first.end + 1)?;
+    (second.end == text.len()).then_some((first.bytes, second.bytes))
 }
 
 fn two_numbers(text: &[u8]) -> Option<(u8, u8)>
@@ -68,14 +60,12 @@ fn read_letter(letter: u8, rest: &[u8]) -> Option<Line<'_>>
     match char::from(letter) {
         'O' => read_open(rest),
         'P' => read_propose(rest),
-        'G' => {
-            let worker = read_number(rest)?;
-            Some(Line::Go { worker })
-        }
-        'W' => {
-            let worker = read_number(rest)?;
-            Some(Line::Wait { worker })
-        }
+        'G' => Some(Line::Go {
+            worker: read_number(rest)?,
+        }),
+        'W' => Some(Line::Wait {
+            worker: read_number(rest)?,
+        }),
         'L' => {
             let (worker, leader) = two_numbers(rest)?;
             Some(Line::Leader { worker, leader })

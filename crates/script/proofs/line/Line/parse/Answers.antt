@@ -1,18 +1,22 @@
--- Each way out answers as the definition does, and so keeps both laws.
-use Rattle.std.proofs.Common.{◌≡◌, ℕ, List, Ok, Result, sym, ap, ◌∙◌}
-use Rattle.script.specs.Shapes.{Asked, or_refused, line_of}
-use Rattle.script.specs.LineTexts.{Writes}
+-- The answer is the definition's, and so keeps both laws.
+use Rattle.std.proofs.Common.{◌≡◌, None, Some, Option, sym, refl, ap, ◌∙◌}
+use Rattle.std.specs.Option.{ok_or, option_map}
+use Rattle.script.specs.declared.line.Line.{Line}
+use Rattle.script.specs.declared.refusal.LineRefusal.TheVariants.{Shape}
+use Rattle.script.specs.LineRefusals.{line_refusal_number}
+use Rattle.script.specs.Shapes.{asked, asked_answer, line_of}
 use Rattle.script.proofs.LineLaws.{line_only, line_back}
 use Rattle.script.proofs.line.Line.parse.Goals as goal
 
-only : (bytes : List ℕ) (r : Result Asked ℕ) → r ≡ line_of bytes → (a : Asked) → r ≡ Ok a → Writes bytes a
-only bytes r e a ok = line_only bytes a (sym e ∙ ok)
+answered : (o : Option Line) → asked_answer (ok_or o Shape) ≡ ok_or (option_map asked o) (line_refusal_number Shape)
+answered None = refl
+answered (Some line) = refl
 
-back : (bytes : List ℕ) (r : Result Asked ℕ) → r ≡ line_of bytes → (a : Asked) → Writes bytes a → r ≡ Ok a
-back bytes r e a w = e ∙ line_back bytes a w
+same : (c : goal.After-ok_or) → asked_answer c.ok_or.result ≡ line_of c.args.line.now
+same c = ap asked_answer c.ok_or.ensures.value ∙ answered c.read_line.result ∙ ap (λ o. ok_or o (line_refusal_number Shape)) c.read_line.ensures.value
 
-pub returns-in-Some : goal.returns-in-Some
-returns-in-Some c = let e = ap or_refused c.in-Some.ensures.value in record { value = e; only = only _ _ e; back = back _ _ e; place = c.in-Some.ensures.place }
+pub returns-clause-only : goal.returns-clause-only
+returns-clause-only c a ok = line_only _ a (sym (same c) ∙ ok)
 
-pub returns-in-None : goal.returns-in-None
-returns-in-None c = let e = ap or_refused c.in-None.ensures.value in record { value = e; only = only _ _ e; back = back _ _ e; place = tt }
+pub returns-clause-back : goal.returns-clause-back
+returns-clause-back c a w = same c ∙ line_back _ a w

@@ -1,7 +1,0 @@
--- An empty text begins no number.
-use Rattle.std.proofs.Common.{rules}
-use Rattle.std.proofs.lemmas.List.{get_or_past}
-use Rattle.decimals.proofs.begins_well.Goals as goal
-
-pub returns-in_default : goal.returns-in_default
-returns-in_default c = search (rules, get_or_past c.args.text.now 0 0)
