@@ -1,7 +1,7 @@
 -- The line that answers a line. A kind of value comes in by its text.
 use Rattle.std.specs.Prelude.{ℕ, List, [], ◌∷◌, ◌++◌, Some, None, Ok, Err, codes, decimal, Option, Result}
 use Rattle.std.proofs.Math.Utf8.{encode}
-use Rattle.kinds.specs.Texts.{value_text}
+use Rattle.kinds.specs.Texts.{value_text, refusal_text}
 use Rattle.calls.specs.declared.call.Answer.{Answer}
 use Rattle.calls.specs.declared.call.Answer.TheVariants.{Opened, Proposed, Stepped}
 use Rattle.calls.specs.Outcomes.{outcome_word}
@@ -32,10 +32,6 @@ start_text number head = start_row number (letter_text head) (worker_text head)
 -- and the last four: outcome, register, round, value
 abbrev pub answer_row : List ℕ → List ℕ → List ℕ → List ℕ → List ℕ → List ℕ
 answer_row start outcome register round value = start ++ (codes "," ++ (outcome ++ (codes "," ++ (register ++ (codes "," ++ (round ++ (codes "," ++ (value ++ line_feed))))))))
-
--- a refusal is r and its number
-abbrev pub refusal_text : ℕ → List ℕ
-refusal_text n = codes "r" ++ decimal n
 
 abbrev pub answer_word : {V : Type 0} → Answer V → List ℕ
 answer_word Opened = codes "opened"

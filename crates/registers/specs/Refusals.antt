@@ -1,5 +1,6 @@
 -- The number of each refusal, and an answer with its refusal as a number.
-use Rattle.std.specs.Prelude.{◌≡◌, ℕ, Ok, Err, Result}
+use Rattle.std.specs.Prelude.{◌≡◌, ℕ, Result}
+use Rattle.std.specs.Result.{result_map_both}
 use Rattle.registers.specs.declared.refusal.Refusal.{Refusal}
 use Rattle.registers.specs.declared.refusal.Refusal.TheVariants.{NoRegister, Unlawful, Unreadable}
 
@@ -9,8 +10,7 @@ pub record Numbers {R : Type 0} (number : R → ℕ) (r : R) (n : ℕ) : Type 0 
   pub tells : (other : R) → number other ≡ n → other ≡ r
 
 abbrev pub numbered_by : {X R : Type 0} → (R → ℕ) → Result X R → Result X ℕ
-numbered_by number (Ok x) = Ok x
-numbered_by number (Err r) = Err (number r)
+numbered_by number answer = result_map_both (λ x. x) number answer
 
 abbrev pub refusal_number : Refusal → ℕ
 refusal_number NoRegister = 1

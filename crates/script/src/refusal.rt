@@ -1,5 +1,6 @@
 // Why a line is refused.
-ghost use Rattle.script.specs.LineRefusals.{Numbers, line_refusal_number};
+ghost use Rattle.registers.specs.Refusals.{Numbers};
+ghost use Rattle.script.specs.LineRefusals.{line_refusal_number};
 
 #[derive(Clone, Copy, PartialEq, Eq, Debug)]
 pub enum LineRefusal {

@@ -39,7 +39,7 @@ fn read_open(text: &[u8]) -> Option<Line<'_>>
     let (workers, kind) = two_fields(text)?;
     Some(Line::Open {
         workers: read_number(workers)?,
-        kind: KindName::from_letter(kind)?,
+        kind: KindName::try_from(kind).ok()?,
     })
 }
 
