@@ -3,12 +3,13 @@
 
 use batches::batch::Batch;
 use choices::choice::Choice;
+use kinds::name::KindName;
 use report::view::view;
-use requests::{KindName, Request};
+use requests::Request;
 use std::alloc::{AllocError, Global};
 use std::io::Read;
 use std::process::ExitCode;
-use std::{env, io};
+use std::{env, fmt, io};
 
 // 128 blocks of 20 bytes: what comes after them belongs to no register.
 const IMAGE_LEN: u64 = 2560;
@@ -25,6 +26,28 @@ enum Failure {
     Output(io::Error),
 }
 
+impl From<AllocError> for Failure {
+    fn from(_why: AllocError) -> Failure {
+        Failure::Memory
+    }
+}
+
+impl fmt::Display for Failure {
+    fn fmt<W: fmt::Write>(&self, f: &mut fmt::Formatter<W>) -> fmt::Result {
+        match self {
+            Failure::Arguments => write!(f, "{USAGE}"),
+            Failure::Input(why) => {
+                write!(
+                    f,
+                    "inspect: cannot read the image from standard input: {why}"
+                )
+            }
+            Failure::Memory => write!(f, "inspect: there is not enough memory"),
+            Failure::Output(why) => write!(f, "inspect: cannot write to standard output: {why}"),
+        }
+    }
+}
+
 fn read_words(words: &[String]) -> Option<Request> {
     match words {
         [_, kind] => Request::whole(kind.as_bytes()),
@@ -36,16 +59,9 @@ fn read_words(words: &[String]) -> Option<Request> {
 }
 
 fn read_request(rt: &HostRuntime) -> Result<Request, Failure> {
-    let Ok(words) = env::args(rt) else {
-        return Err(Failure::Memory);
-    };
-    let Ok(words) = words.collect::<Vec<String>>(rt.alloc()) else {
-        return Err(Failure::Memory);
-    };
-    match read_words(words.as_slice()) {
-        None => Err(Failure::Arguments),
-        Some(request) => Ok(request),
-    }
+    let words = env::args(rt).map_err(|_| Failure::Memory)?;
+    let words = words.collect::<Vec<String>>(rt.alloc())?;
+    read_words(words.as_slice()).ok_or(Failure::Arguments)
 }
 
 fn read_image(rt: &HostRuntime) -> io::Result<Vec<u8>> {
@@ -63,35 +79,16 @@ fn show(heap: Global, request: Request, image: &[u8]) -> Result<String, AllocErr
 
 fn run(rt: &HostRuntime) -> Result<(), Failure> {
     let request = read_request(rt)?;
-    let image = match read_image(rt) {
-        Ok(image) => image,
-        Err(why) => return Err(Failure::Input(why)),
-    };
-    let Ok(text) = show(rt.alloc(), request, image.as_slice()) else {
-        return Err(Failure::Memory);
-    };
-    match rt.print(text.as_str()) {
-        Ok(()) => Ok(()),
-        Err(why) => Err(Failure::Output(why)),
-    }
-}
-
-fn tell(rt: &HostRuntime, failure: &Failure) -> io::Result<()> {
-    match failure {
-        Failure::Arguments => eprintln!(rt; "{USAGE}"),
-        Failure::Input(why) => {
-            eprintln!(rt; "inspect: cannot read the image from standard input: {why}")
-        }
-        Failure::Memory => eprintln!(rt; "inspect: there is not enough memory"),
-        Failure::Output(why) => eprintln!(rt; "inspect: cannot write to standard output: {why}"),
-    }
+    let image = read_image(rt).map_err(Failure::Input)?;
+    let text = show(rt.alloc(), request, image.as_slice())?;
+    rt.print(text.as_str()).map_err(Failure::Output)
 }
 
 fn main(rt: HostRuntime) -> ExitCode {
     match run(&rt) {
         Ok(()) => ExitCode::SUCCESS,
         Err(failure) => {
-            let _ = tell(&rt, &failure);
+            let _ = eprintln!(rt; "{failure}");
             ExitCode::FAILURE
         }
     }
