@@ -13,7 +13,7 @@ use Rattle.calls.specs.declared.outcome.Outcome.TheVariants.{Begun, Put, Decided
 use Rattle.calls.specs.declared.outcome.Effect.{Effect}
 use Rattle.calls.specs.declared.refusal.CallRefusal.{CallRefusal}
 use Rattle.calls.specs.declared.refusal.CallRefusal.TheVariants.{Decided as HasDecided, RoundLimit, Bank}
-use Rattle.calls.specs.CallRefusals.{call_refusal_number}
+use Rattle.calls.specs.CallRefusals.{call_refusal_number, call_numbered}
 use Rattle.protocol.specs.declared.state.Phase.{Phase}
 use Rattle.protocol.specs.declared.state.Phase.TheVariants.{Idle, First, Ready, Second, Sure, Decided}
 use Rattle.protocol.specs.declared.state.State.{State}
@@ -27,6 +27,10 @@ pub record After (V : Type 0) : Type 0 where
   pub cells : List (Cell V)
 
 module _ {V : Type 0} where
+  -- what a call left, by its answer, its worker and its cells at the return
+  abbrev pub left : Result (Effect V) CallRefusal → State V → List (Cell V) → After V
+  left answer s cells = record { answer = call_numbered answer; state = s; cells = cells }
+
   abbrev pub refused : CallRefusal → State V → List (Cell V) → After V
   refused e s cells = record { answer = Err (call_refusal_number e); state = s; cells = cells }
 
@@ -63,11 +67,15 @@ module _ {V : Type 0} where
   abbrev pub begun : State V → List (Cell V) → After V
   begun s cells = begun_at (round_of_worker s.seen s.number s.total) s cells
 
+  -- a candidate under the worker's round, put forward or as decided
+  abbrev pub offered : State V → List (Cell V) → Tag → V → Phase V → Outcome → After V
+  offered s cells t v next o = stored s cells (value_fields s.own.round t v) next o
+
   abbrev pub put : State V → List (Cell V) → V → After V
-  put s cells v = stored s cells (value_fields s.own.round Pro v) (Second 1 v) Put
+  put s cells v = offered s cells Pro v (Second 1 v) Put
 
   abbrev pub decided : State V → List (Cell V) → V → After V
-  decided s cells v = stored s cells (value_fields s.own.round Dec v) (Decided v) DecidedNow
+  decided s cells v = offered s cells Dec v (Decided v) DecidedNow
 
   -- a read that answered `got`, and the turn that follows a record
   abbrev pub looked : State V → List (Cell V) → Result (Record V) ℕ → (Fields V → Turn V) → After V

@@ -1,31 +1,20 @@
 // The lines of the input, one after another. Of a long line only so many bytes are kept that it is seen to be too long.
-ghost use Rattle.std.specs.Prelude.{◌≤◌, length};
-
 use script::line::MAX_LINE;
 use std::alloc::Global;
 use std::io;
-use std::io::{BufRead, BufReader, Stdin};
+use std::io::{BufRead, BufReader, Read, Stdin};
 
 // The most lines that are read.
 pub(crate) const MAX_LINES: usize = 10_000;
+
+// The most bytes that are kept of a line: a line that can be answered, and its line feed.
+const MAX_KEPT: usize = MAX_LINE + 1;
 
 #[derive(Drop)]
 pub(crate) struct Lines {
     input: BufReader<Stdin>,
     line: Vec<u8>,
     number: usize,
-}
-
-// How many bytes stand before the first line feed, or in all.
-fn before_feed(part: &[u8]) -> usize
-    ensures { result ≤ length part.now }
-{
-    for i in 0..part.len() {
-        if part[i] == b'\n' {
-            return i;
-        }
-    }
-    part.len()
 }
 
 impl Lines {
@@ -42,37 +31,34 @@ impl Lines {
         self.line.as_slice()
     }
 
-    // Reads the next line and answers its number, or none where no line is left to be read.
-    pub(crate) fn next(&mut self) -> io::Result<Option<usize>> {
-        let number = self.number;
-        if number >= MAX_LINES {
-            return Ok(None);
+    // The number of that line.
+    pub(crate) fn number(&self) -> usize {
+        self.number
+    }
+
+    // Reads the next line, if one is left to be read.
+    pub(crate) fn advance(&mut self) -> io::Result<bool> {
+        if self.number >= MAX_LINES {
+            return Ok(false);
         }
         self.line.clear();
         if !self.read()? {
-            return Ok(None);
+            return Ok(false);
         }
-        self.number = number + 1;
-        Ok(Some(number + 1))
+        self.number += 1;
+        Ok(true)
     }
 
     // Reads up to the line feed or the end of the input; false where there is nothing before it.
     fn read(&mut self) -> io::Result<bool> {
-        for turn in 0..u64::MAX {
-            let part = self.input.fill_buf()?;
-            if part.is_empty() {
-                return Ok(turn > 0);
-            }
-            let end = before_feed(part);
-            let fed = end < part.len();
-            let room = (MAX_LINE + 1).saturating_sub(self.line.len());
-            self.line.extend_from_slice(&part[..end.min(room)])?;
-            if fed {
-                self.input.consume(end + 1);
-                return Ok(true);
-            }
-            self.input.consume(end);
+        let count = (&mut self.input)
+            .take(MAX_KEPT as u64)
+            .read_until(b'\n', &mut self.line)?;
+        if self.line.as_slice().last() == Some(&b'\n') {
+            self.line.pop();
+        } else if count == MAX_KEPT {
+            self.input.skip_until(b'\n')?;
         }
-        Ok(true)
+        Ok(count > 0)
     }
 }

@@ -6,21 +6,19 @@ use batches::batch::Batch;
 use blocks::block::BLOCK_LEN;
 use blocks::block_bank::BlockBank;
 use calls::call::Answer;
-use calls::refusal::CallRefusal;
 use choices::choice::Choice;
 use engine::instance::open;
 use engine::worker::Worker;
 use input::{Lines, MAX_LINES};
 use kinds::kind::Kind;
 use kinds::name::KindName;
-use protocol::round::MAX_WORKERS;
 use registers::bank::WriteBank;
 use script::line::Head;
 use session::{read_opening, reply};
 use std::alloc::{AllocError, Global};
-use std::io;
 use std::io::{BufWriter, Stdout, Write};
 use std::process::ExitCode;
+use std::{fmt, io};
 
 mod input;
 
@@ -32,6 +30,27 @@ enum Failure {
     Output(io::Error),
 }
 
+impl From<AllocError> for Failure {
+    fn from(_why: AllocError) -> Failure {
+        Failure::Memory
+    }
+}
+
+impl fmt::Display for Failure {
+    fn fmt<W: fmt::Write>(&self, f: &mut fmt::Formatter<W>) -> fmt::Result {
+        match self {
+            Failure::Input(why) => {
+                write!(
+                    f,
+                    "floor: cannot read the script from standard input: {why}"
+                )
+            }
+            Failure::Memory => write!(f, "floor: there is not enough memory"),
+            Failure::Output(why) => write!(f, "floor: cannot write to standard output: {why}"),
+        }
+    }
+}
+
 // The input, the output, and the memory for the answers.
 #[derive(Drop)]
 struct Desk {
@@ -41,29 +60,25 @@ struct Desk {
 }
 
 impl Desk {
-    // The number of the next line, if there is one.
-    fn next(&mut self) -> Result<Option<usize>, Failure> {
-        match self.lines.next() {
-            Ok(number) => Ok(number),
-            Err(why) => Err(Failure::Input(why)),
-        }
+    // Reads the next line, if there is one.
+    fn advance(&mut self) -> Result<bool, Failure> {
+        self.lines.advance().map_err(Failure::Input)
     }
 
-    fn print(&mut self, text: Result<String, AllocError>) -> Result<(), Failure> {
-        let Ok(text) = text else {
-            return Err(Failure::Memory);
-        };
-        match self.output.write_all(text.as_bytes()) {
-            Ok(()) => Ok(()),
-            Err(why) => Err(Failure::Output(why)),
-        }
+    fn print(&mut self, text: &str) -> Result<(), Failure> {
+        self.output
+            .write_all(text.as_bytes())
+            .map_err(Failure::Output)
     }
 
-    fn flush(&mut self) -> Result<(), Failure> {
-        match self.output.flush() {
-            Ok(()) => Ok(()),
-            Err(why) => Err(Failure::Output(why)),
-        }
+    // Prints the answer to the line that was read last.
+    fn answer<K: Kind>(
+        &mut self,
+        head: Option<Head>,
+        answer: Result<Answer<K>, u8>,
+    ) -> Result<(), Failure> {
+        let text = answer_line(self.heap, self.lines.number(), head, answer)?;
+        self.print(text.as_str())
     }
 }
 
@@ -74,97 +89,54 @@ fn answer_calls<K: Kind, B: WriteBank<Value = K>>(
     bank: &mut B,
 ) -> Result<(), Failure> {
     for _ in 0..MAX_LINES {
-        let Some(number) = desk.next()? else {
+        if !desk.advance()? {
             return Ok(());
-        };
-        let text = reply(desk.heap, number, desk.lines.line(), workers, bank);
-        desk.print(text)?;
+        }
+        let text = reply(
+            desk.heap,
+            desk.lines.number(),
+            desk.lines.line(),
+            workers,
+            bank,
+        )?;
+        desk.print(text.as_str())?;
     }
     Ok(())
 }
 
-// Opens an instance, and answers the lines that are left; false where it is refused.
-fn open_and_answer<K: Kind, B: WriteBank<Value = K>>(
-    desk: &mut Desk,
-    number: usize,
-    head: Head,
-    workers: &mut [Worker<K>],
-    bank: &mut B,
-) -> Result<bool, Failure> {
-    let answer = match open(workers, bank) {
-        Ok(()) => Ok(Answer::Opened),
-        Err(refusal) => Err(refusal.number()),
-    };
-    let opened = answer.is_ok();
-    let text = answer_line::<K>(desk.heap, number, Some(head), answer);
-    desk.print(text)?;
-    if opened {
-        answer_calls(desk, workers, bank)?;
+// Opens an instance of this kind, and answers the lines that are left; false where it is refused. A
+// line asks for at most 255 workers, so the memory is bounded whatever is sent.
+fn open_and_answer<K: Kind>(desk: &mut Desk, head: Head, workers: usize) -> Result<bool, Failure> {
+    let mut row = vec![in desk.heap; Worker::<K>::new(); workers]?;
+    let mut bytes = vec![in desk.heap; 0u8; BLOCK_LEN.saturating_mul(workers)]?;
+    let mut bank = BlockBank::<K>::new(bytes.as_mut_slice());
+    let opened = open(row.as_mut_slice(), &mut bank);
+    let answer = opened.map(|()| Answer::Opened).map_err(u8::from);
+    desk.answer::<K>(Some(head), answer)?;
+    if opened.is_ok() {
+        answer_calls(desk, row.as_mut_slice(), &mut bank)?;
     }
-    Ok(opened)
-}
-
-// There is memory for 8 workers, so that more are refused as an instance of any size above 8 is.
-fn refuse_size(desk: &mut Desk, number: usize, head: Head) -> Result<bool, Failure> {
-    let refusal = CallRefusal::Size.number();
-    let text = answer_line::<Batch>(desk.heap, number, Some(head), Err(refusal));
-    desk.print(text)?;
-    Ok(false)
-}
-
-fn open_batches(
-    desk: &mut Desk,
-    number: usize,
-    head: Head,
-    workers: usize,
-) -> Result<bool, Failure> {
-    let mut row = [Worker::<Batch>::new(); MAX_WORKERS];
-    let mut bytes = [0u8; MAX_WORKERS * BLOCK_LEN];
-    if workers > MAX_WORKERS {
-        return refuse_size(desk, number, head);
-    }
-    let mut bank = BlockBank::<Batch>::new(&mut bytes[..workers * BLOCK_LEN]);
-    open_and_answer(desk, number, head, &mut row[..workers], &mut bank)
-}
-
-fn open_choices(
-    desk: &mut Desk,
-    number: usize,
-    head: Head,
-    workers: usize,
-) -> Result<bool, Failure> {
-    let mut row = [Worker::<Choice>::new(); MAX_WORKERS];
-    let mut bytes = [0u8; MAX_WORKERS * BLOCK_LEN];
-    if workers > MAX_WORKERS {
-        return refuse_size(desk, number, head);
-    }
-    let mut bank = BlockBank::<Choice>::new(&mut bytes[..workers * BLOCK_LEN]);
-    open_and_answer(desk, number, head, &mut row[..workers], &mut bank)
+    Ok(opened.is_ok())
 }
 
 // Answers a line where nothing is open, and all after it if it opens an instance.
-fn answer_before_open(desk: &mut Desk, number: usize) -> Result<bool, Failure> {
+fn answer_before_open(desk: &mut Desk) -> Result<bool, Failure> {
     match read_opening(desk.lines.line()) {
-        (Some(head), Ok(opening)) => match opening.kind {
-            KindName::Batch => open_batches(desk, number, head, opening.workers),
-            KindName::Choice => open_choices(desk, number, head, opening.workers),
+        Ok((head, opening)) => match opening.kind {
+            KindName::Batch => open_and_answer::<Batch>(desk, head, opening.workers),
+            KindName::Choice => open_and_answer::<Choice>(desk, head, opening.workers),
         },
-        (head, Err(refusal)) => {
-            let text = answer_line::<Batch>(desk.heap, number, head, Err(refusal));
-            desk.print(text)?;
+        Err((head, refusal)) => {
+            desk.answer::<Batch>(head, Err(u8::from(refusal)))?;
             Ok(false)
         }
-        (None, Ok(_)) => Ok(false),
     }
 }
 
 // Answers lines until an instance is opened, and those after it.
 fn answer_script(desk: &mut Desk) -> Result<(), Failure> {
     for _ in 0..MAX_LINES {
-        let Some(number) = desk.next()? else {
-            return Ok(());
-        };
-        if answer_before_open(desk, number)? {
+        if !desk.advance()? || answer_before_open(desk)? {
             return Ok(());
         }
     }
@@ -181,32 +153,19 @@ fn new_desk(rt: &HostRuntime) -> io::Result<Desk> {
 
 fn run(rt: &HostRuntime) -> Result<(), Failure> {
     // What a desk can lack is memory for its buffers.
-    let Ok(mut desk) = new_desk(rt) else {
-        return Err(Failure::Memory);
-    };
+    let mut desk = new_desk(rt).map_err(|_| Failure::Memory)?;
     let done = answer_script(&mut desk);
-    let written = desk.flush();
-    match done {
-        Ok(()) => written,
-        Err(failure) => Err(failure),
-    }
-}
-
-fn tell(rt: &HostRuntime, failure: &Failure) -> io::Result<()> {
-    match failure {
-        Failure::Input(why) => {
-            eprintln!(rt; "floor: cannot read the script from standard input: {why}")
-        }
-        Failure::Memory => eprintln!(rt; "floor: there is not enough memory"),
-        Failure::Output(why) => eprintln!(rt; "floor: cannot write to standard output: {why}"),
-    }
+    // what was answered is written also where the script was not run to its end
+    let written = desk.output.flush().map_err(Failure::Output);
+    done?;
+    written
 }
 
 fn main(rt: HostRuntime) -> ExitCode {
     match run(&rt) {
         Ok(()) => ExitCode::SUCCESS,
         Err(failure) => {
-            let _ = tell(&rt, &failure);
+            let _ = eprintln!(rt; "{failure}");
             ExitCode::FAILURE
         }
     }

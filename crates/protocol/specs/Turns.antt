@@ -1,5 +1,6 @@
 -- What a worker makes of a record that it read. The record is an argument, whatever bank answered it.
-use Rattle.std.specs.Prelude.{ℕ, ◌+◌, max, cond, Some, None, Option, nat_lt}
+use Rattle.std.specs.Prelude.{◌≡◌, ℕ, ◌+◌, ◌<◌, max, cond, Some, None, Option, nat_lt}
+use Rattle.std.specs.Option.{unwrap_or, option_map}
 use Rattle.registers.specs.declared.record.Fields.{Fields}
 use Rattle.registers.specs.declared.tag.Tag.{Tag}
 use Rattle.registers.specs.declared.tag.Tag.TheVariants.{None as Untagged, Pro, Dec}
@@ -47,12 +48,8 @@ module _ {V : Type 0} where
   abbrev pub noticed : State V → Fields V → State V
   noticed s f = adopting (decided_value f.tag f.value) (raised s f)
 
-  abbrev pub adopted_effect : ℕ → ℕ → Option V → Option (Effect V)
-  adopted_effect k r None = None
-  adopted_effect k r (Some v) = Some (effect_of Adopted k r (Some v))
-
   abbrev pub adoption : ℕ → Fields V → Option (Effect V)
-  adoption k f = adopted_effect k f.round (decided_value f.tag f.value)
+  adoption k f = option_map (λ v. effect_of Adopted k f.round (Some v)) (decided_value f.tag f.value)
 
   -- a read of register k that answered f: an adoption, or else the turn that the phase has for it
   abbrev pub on_read : Option (Effect V) → State V → Turn V → Turn V
@@ -60,12 +57,8 @@ module _ {V : Type 0} where
   on_read (Some e) s onward = turn s e
 
   -- what the first collect leaves to put forward: the kept value, or else the proposal
-  abbrev pub value_or : Option V → V → V
-  value_or None p = p
-  value_or (Some v) p = v
-
   abbrev pub candidate_of : Fields V → V → V
-  candidate_of kept p = value_or kept.value p
+  candidate_of kept p = unwrap_or kept.value p
 
   -- of two records the one with the greater accepted round, the earlier one if they are equal
   abbrev pub greater : Fields V → Fields V → Fields V
@@ -85,21 +78,25 @@ module _ {V : Type 0} where
   abbrev pub watch_turn : State V → Fields V → Turn V
   watch_turn s f = on_read (adoption s.watch f) (noticed (moved s) f) (turn (noticed (moved s) f) (read_effect s.watch f))
 
-  -- the first collect, with s after `seen` was raised
-  abbrev pub first_onward : State V → ℕ → Fields V → V → Fields V → Turn V
-  first_onward s k kept p f =
+  -- a collect, with s after `seen` was raised: it goes on in one phase, or ends in another with a candidate
+  abbrev pub onward : State V → ℕ → Fields V → (ℕ → Phase V) → Phase V → V → Turn V
+  onward s k f collecting collected candidate =
       cond (nat_lt k s.total)
-      (turn (with_phase s (First (k + 1) kept)) (read_effect k f))
-      (end_turn s k f (Ready kept) (candidate_of kept p))
+      (turn (with_phase s (collecting (k + 1))) (read_effect k f))
+      (end_turn s k f collected candidate)
+
+  -- the same, where the phase that goes on is what a closure answers, which is asked only where a register follows
+  abbrev pub Onward : (ℕ → Phase V → Type 0) → State V → ℕ → Fields V → Phase V → V → State V → Effect V → Type 0
+  Onward Collecting s k f collected candidate s' e =
+      (p : Phase V) × (k < s.total → Collecting (k + 1) p)
+      × (s' ≡ (onward s k f (λ _. p) collected candidate).state)
+      × (e ≡ (onward s k f (λ _. p) collected candidate).effect)
 
   abbrev pub first_turn : State V → ℕ → Fields V → V → Fields V → Turn V
-  first_turn s k kept p f = on_read (adoption k f) (noticed s f) (first_onward (noticed s f) k (greater kept f) p f)
-
-  abbrev pub second_onward : State V → ℕ → V → Fields V → Turn V
-  second_onward s k c f =
-      cond (nat_lt k s.total)
-      (turn (with_phase s (Second (k + 1) c)) (read_effect k f))
-      (end_turn s k f (Sure c) c)
+  first_turn s k kept p f =
+      let kept' = greater kept f in
+      on_read (adoption k f) (noticed s f) (onward (noticed s f) k f (λ next. First next kept') (Ready kept') (candidate_of kept' p))
 
   abbrev pub second_turn : State V → ℕ → V → Fields V → Turn V
-  second_turn s k c f = on_read (adoption k f) (noticed s f) (second_onward (noticed s f) k c f)
+  second_turn s k c f =
+      on_read (adoption k f) (noticed s f) (onward (noticed s f) k f (λ next. Second next c) (Sure c) c)

@@ -27,12 +27,12 @@ pub fn next_round(seen: u32, number: usize, total: usize) -> Option<u32>
     ensures value { result ≡ round_of_worker seen number total }
     ensures least { BeginsAt seen number total result }
 {
-    if number < 1 || total < number || MAX_WORKERS < total {
+    if !(1..=total).contains(&number) || total > MAX_WORKERS {
         return None;
     }
+    // two casts that lose nothing: there is no `From` of `usize` into `u64`
     let round = round_above(u64::from(seen), number as u64, total as u64);
-    if round > u64::from(MAX_ROUND) {
-        return None;
-    }
-    Some(round as u32)
+    u32::try_from(round)
+        .ok()
+        .filter(|round| *round <= MAX_ROUND)
 }

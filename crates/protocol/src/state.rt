@@ -1,7 +1,7 @@
 // The state of a worker.
 use registers::record::Fields;
 
-#[derive(Clone, Copy)]
+#[derive(Clone, Copy, PartialEq, Eq, Debug)]
 pub enum Phase<V> {
     // between two rounds
     Idle,
@@ -18,7 +18,7 @@ pub enum Phase<V> {
     Decided { value: V },
 }
 
-#[derive(Clone, Copy)]
+#[derive(Clone, Copy, PartialEq, Eq, Debug)]
 pub struct State<V> {
     // its place in the row, which is the number of its register too
     pub number: usize,

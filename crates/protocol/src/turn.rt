@@ -1,6 +1,6 @@
 // What a worker makes of a record that it read: every read raises `seen` and adopts a decision.
 ghost use Rattle.std.specs.Prelude.{◌≡◌};
-ghost use Rattle.protocol.specs.Turns.{candidate_of, noticed, adoption, read_effect, greater, end_turn, watch_turn, first_onward, first_turn, second_onward, second_turn};
+ghost use Rattle.protocol.specs.Turns.{candidate_of, noticed, adoption, read_effect, greater, Onward, watch_turn, first_turn, second_turn};
 
 use super::state::{Phase, State};
 use calls::outcome::{Effect, Outcome};
@@ -56,18 +56,23 @@ fn greater<V: Copy>(kept: Fields<V>, fields: &Fields<V>) -> Fields<V>
     }
 }
 
-// The last register of a collect was read: the worker has failed if it has seen a round above its own.
-fn end_collect<V: Copy>(
+// A collect has read a register. It goes on to the next one, or ends at the last: the worker has
+// failed if it has seen a round above its own.
+fn onward<V: Copy, F: FnOnce(usize) -> Phase<V>>(
     state: &mut State<V>,
     register: usize,
     fields: &Fields<V>,
-    next: Phase<V>,
+    collected: Phase<V>,
     candidate: V,
+    collecting: F,
 ) -> Effect<V>
-    ensures state { state.new ≡ (end_turn state.old register fields.now next candidate).state }
-    ensures effect { result ≡ (end_turn state.old register fields.now next candidate).effect }
+    requires { F.IsAlwaysCallable collecting }
+    ensures { Onward (F.post collecting) state.old register fields.now collected candidate state.new result }
 {
-    if state.seen > state.own.round {
+    if register < state.total {
+        state.phase = collecting(register + 1);
+        read_effect(register, fields)
+    } else if state.seen > state.own.round {
         state.phase = Phase::Idle;
         Effect {
             outcome: Outcome::Failed,
@@ -76,7 +81,7 @@ fn end_collect<V: Copy>(
             value: fields.value,
         }
     } else {
-        state.phase = next;
+        state.phase = collected;
         Effect {
             outcome: Outcome::Ready,
             register,
@@ -97,33 +102,7 @@ pub fn watch_turn<V: Copy>(state: &mut State<V>, fields: &Fields<V>) -> Effect<V
     } else {
         1
     };
-    match notice(state, register, fields) {
-        Some(adopted) => adopted,
-        None => read_effect(register, fields),
-    }
-}
-
-// The first collect goes on to the next register, or ends with what it kept.
-fn first_onward<V: Copy>(
-    state: &mut State<V>,
-    register: usize,
-    kept: Fields<V>,
-    proposal: V,
-    fields: &Fields<V>,
-) -> Effect<V>
-    ensures state { state.new ≡ (first_onward state.old register kept proposal fields.now).state }
-    ensures effect { result ≡ (first_onward state.old register kept proposal fields.now).effect }
-{
-    if register < state.total {
-        state.phase = Phase::First {
-            next: register + 1,
-            kept,
-        };
-        read_effect(register, fields)
-    } else {
-        let candidate = candidate(&kept, proposal);
-        end_collect(state, register, fields, Phase::Ready { kept }, candidate)
-    }
+    notice(state, register, fields).unwrap_or_else(|| read_effect(register, fields))
 }
 
 // The first collect has read a register: it keeps the greatest accepted round.
@@ -137,35 +116,19 @@ pub fn first_turn<V: Copy>(
     ensures state { state.new ≡ (first_turn state.old register kept proposal fields.now).state }
     ensures effect { result ≡ (first_turn state.old register kept proposal fields.now).effect }
 {
-    match notice(state, register, fields) {
-        Some(adopted) => adopted,
-        None => {
-            let kept = greater(kept, fields);
-            first_onward(state, register, kept, proposal, fields)
-        }
+    if let Some(adopted) = notice(state, register, fields) {
+        return adopted;
     }
-}
-
-// The second collect goes on to the next register, or ends.
-fn second_onward<V: Copy>(
-    state: &mut State<V>,
-    register: usize,
-    candidate: V,
-    fields: &Fields<V>,
-) -> Effect<V>
-    ensures state { state.new ≡ (second_onward state.old register candidate fields.now).state }
-    ensures effect { result ≡ (second_onward state.old register candidate fields.now).effect }
-{
-    if register < state.total {
-        state.phase = Phase::Second {
-            next: register + 1,
-            candidate,
-        };
-        read_effect(register, fields)
-    } else {
-        let sure = Phase::Sure { candidate };
-        end_collect(state, register, fields, sure, candidate)
-    }
+    let kept = greater(kept, fields);
+    let candidate = candidate(&kept, proposal);
+    onward(
+        state,
+        register,
+        fields,
+        Phase::Ready { kept },
+        candidate,
+        |next| Phase::First { next, kept },
+    )
 }
 
 // The second collect has read a register.
@@ -178,8 +141,15 @@ pub fn second_turn<V: Copy>(
     ensures state { state.new ≡ (second_turn state.old register candidate fields.now).state }
     ensures effect { result ≡ (second_turn state.old register candidate fields.now).effect }
 {
-    match notice(state, register, fields) {
-        Some(adopted) => adopted,
-        None => second_onward(state, register, candidate, fields),
+    if let Some(adopted) = notice(state, register, fields) {
+        return adopted;
     }
+    onward(
+        state,
+        register,
+        fields,
+        Phase::Sure { candidate },
+        candidate,
+        |next| Phase::Second { next, candidate },
+    )
 }

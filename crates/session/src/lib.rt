@@ -2,53 +2,84 @@
 #![tactic(auto)]
 
 ghost use Rattle.std.specs.Prelude.{◌≡◌, IfOk, string_bytes};
-ghost use Rattle.calls.specs.CallRefusals.{call_numbered};
 ghost use Rattle.script.specs.Shapes.{asked};
 ghost use Rattle.script.specs.Lines.{opening_line, head_line};
 ghost use Rattle.answers.specs.Answers.{answer_text};
 ghost use Rattle.engine.specs.Rows.{states};
+ghost use Rattle.session.specs.declared.Refused.TheVariants.{Line, Call};
+ghost use Rattle.session.specs.Refusing.{refused_number, refused_numbered, opened};
 ghost use Rattle.session.specs.Sessions.{asked_whole, line_whole};
 
 use answers::answer_line;
 use calls::call::Answer;
+use calls::refusal::CallRefusal;
 use engine::instance::make;
 use engine::worker::Worker;
 use kinds::kind::Kind;
 use registers::bank::WriteBank;
 use script::line::{Head, Line, Opening};
+use script::refusal::LineRefusal;
 use std::alloc::{AllocError, Global};
 
-// Makes the call that a line asks for; a refusal of the line or of the call as its number.
+// Why a line is not answered as it asks: the line is refused, or the call that it asks for.
+#[derive(Clone, Copy, PartialEq, Eq, Debug)]
+enum Refused {
+    Line(LineRefusal),
+    Call(CallRefusal),
+}
+
+impl From<LineRefusal> for Refused {
+    ghost from_gives = { λ refusal refused. refused ≡ Line refusal };
+
+    fn from(refusal: LineRefusal) -> Refused {
+        Refused::Line(refusal)
+    }
+}
+
+impl From<CallRefusal> for Refused {
+    ghost from_gives = { λ refusal refused. refused ≡ Call refusal };
+
+    fn from(refusal: CallRefusal) -> Refused {
+        Refused::Call(refusal)
+    }
+}
+
+impl From<Refused> for u8 {
+    ghost from_gives = { λ refused number. number ≡ refused_number refused };
+
+    fn from(refused: Refused) -> u8 {
+        match refused {
+            Refused::Line(refusal) => refusal.into(),
+            Refused::Call(refusal) => refusal.into(),
+        }
+    }
+}
+
+// Makes the call that a line asks for.
 fn call<K: Kind, B: WriteBank<Value = K>>(
     line: Line<'_>,
     workers: &mut [Worker<K>],
     bank: &mut B,
-) -> Result<Answer<K>, u8>
-    ensures answer { result ≡ (asked_whole K.Kind.of_text (asked line.entry) (states workers.old) (B.ReadBank.cells bank.old)).answer }
+) -> Result<Answer<K>, Refused>
+    ensures answer { refused_numbered result ≡ (asked_whole K.Kind.of_text (asked line.entry) (states workers.old) (B.ReadBank.cells bank.old)).answer }
     ensures workers { states workers.new ≡ (asked_whole K.Kind.of_text (asked line.entry) (states workers.old) (B.ReadBank.cells bank.old)).states }
     ensures cells { B.ReadBank.cells bank.new ≡ (asked_whole K.Kind.of_text (asked line.entry) (states workers.old) (B.ReadBank.cells bank.old)).cells }
     ensures rest { B.rest bank.new ≡ B.rest bank.old }
 {
-    match line.call::<K>(workers.len()) {
-        Ok(call) => match make(workers, bank, call) {
-            Ok(answer) => Ok(answer),
-            Err(refusal) => Err(refusal.number()),
-        },
-        Err(refusal) => Err(refusal.number()),
-    }
+    let call = line.call::<K>(workers.len())?;
+    Ok(make(workers, bank, call)?)
 }
 
-// What a line opens where nothing is open yet, or the number of its refusal, and what its answer repeats of it.
-pub fn read_opening(line: &[u8]) -> (Option<Head>, Result<Opening, u8>)
-    ensures head { result.0 ≡ head_line line.now }
-    ensures opening { result.1 ≡ opening_line line.now }
+// What a line opens where nothing is open yet, or its refusal, and what its answer repeats of it,
+// if it has the shape of a line.
+pub fn read_opening(line: &[u8]) -> Result<(Head, Opening), (Option<Head>, LineRefusal)>
+    ensures { opened result ≡ (head_line line.now, opening_line line.now) }
 {
-    match Line::parse(line) {
-        Ok(line) => match line.opening() {
-            Ok(opening) => (Some(line.head()), Ok(opening)),
-            Err(refusal) => (Some(line.head()), Err(refusal.number())),
-        },
-        Err(refusal) => (None, Err(refusal.number())),
+    let line = Line::parse(line).map_err(|refusal| (None, refusal))?;
+    let head = line.head();
+    match line.opening() {
+        Ok(opening) => Ok((head, opening)),
+        Err(refusal) => Err((Some(head), refusal)),
     }
 }
 
@@ -68,9 +99,9 @@ pub fn reply<K: Kind, B: WriteBank<Value = K>>(
     match Line::parse(line) {
         Ok(line) => {
             let head = line.head();
-            let answer = call(line, workers, bank);
+            let answer = call(line, workers, bank).map_err(u8::from);
             answer_line(heap, number, Some(head), answer)
         }
-        Err(refusal) => answer_line::<K>(heap, number, None, Err(refusal.number())),
+        Err(refusal) => answer_line::<K>(heap, number, None, Err(u8::from(refusal))),
     }
 }
