@@ -7,10 +7,11 @@ pub mod methods;
 // The most registers that a permutation has.
 pub const MAX_PERMUTED: usize = 8;
 
-// The first `count` places name each of the registers 1 to `count` once.
+// The first `count` places name each of the registers 1 to `count` once. An array with a length
+// beside it, and no Vec: a permutation is copied, and making one cannot fail for want of memory.
 #[derive(Clone, Copy)]
 pub struct Permutation {
-    places: [usize; 8],
+    places: [usize; MAX_PERMUTED],
     count: usize,
     ghost lawful: { is_permutation places count ≡ true },
 }

@@ -3,7 +3,7 @@ ghost use Rattle.std.specs.Prelude.{◌≡◌, length};
 ghost use Rattle.registers.specs.Cells.{write_answer, write_cells};
 ghost use Rattle.registers.specs.Refusals.{numbered};
 ghost use Rattle.layers.specs.Below.{write_below};
-ghost use Rattle.layers.specs.Permuting.{named, permuted_size, permuted_place, permuted_cells, PermutedRest, permuted_rest};
+ghost use Rattle.layers.specs.Permuting.{named, permuted_place, permuted_cells, PermutedRest, permuted_rest};
 
 use super::permutation::Permutation;
 use registers::bank::{ReadBank, WriteBank};
@@ -11,7 +11,9 @@ use registers::record::{Fields, Record};
 use registers::refusal::Refusal;
 
 // Register j is the j-th one that the permutation names. Over a bank of another size than the
-// permutation's there is no register. The permutation is lent, so that a layer may stand on this one.
+// permutation's there is no register. The permutation is lent and not held by value: tried, and then
+// nothing that makes a window on this layer over lent memory proves, since the prover covers no type
+// argument that holds a `&mut` and a struct with an invariant.
 #[derive(Drop)]
 pub struct Permuted<'o, B> {
     below: B,
@@ -27,45 +29,36 @@ impl<'o, B> Permuted<'o, B> {
     }
 }
 
-// How many registers there are over `size` of them.
-fn extent(order: &Permutation, size: usize) -> usize
-    ensures { result ≡ permuted_size (named order.now) size }
-{
-    if order.count() == size { size } else { 0 }
-}
-
 impl<'o, B: ReadBank> ReadBank for Permuted<'o, B> {
     type Value = B::Value;
 
-    ghost cells = { λ w. permuted_cells (B.ReadBank.cells w.below) (named w.order.now) };
+    ghost cells = { λ w. permuted_cells (B.cells w.below) (named w.order.now) };
 
     fn size(&self) -> usize {
-        extent(self.order, self.below.size())
+        self.order.extent(self.below.size())
     }
 
     fn read(&self, register: usize) -> Result<Record<B::Value>, Refusal> {
-        match self.order.place(self.below.size(), register) {
-            None => Err(Refusal::NoRegister),
-            Some(at) => self.below.read(at),
-        }
+        let place = self.order.place(self.below.size(), register);
+        let at = place.ok_or(Refusal::NoRegister)?;
+        self.below.read(at)
     }
 }
 
 impl<'o, B: WriteBank> WriteBank for Permuted<'o, B> {
-    ghost Rest = { PermutedRest B.Value B.WriteBank.Rest };
+    ghost Rest = { PermutedRest B.Value B.Rest };
 
-    ghost rest = { λ w. permuted_rest (B.ReadBank.cells w.below) (named w.order.now) (B.WriteBank.rest w.below) };
+    ghost rest = { λ w. permuted_rest (B.cells w.below) (named w.order.now) (B.rest w.below) };
 
     fn write(&mut self, register: usize, fields: &Fields<B::Value>) -> Result<(), Refusal>
-        ensures answer { numbered result ≡ write_answer (permuted_cells (B.ReadBank.cells self.old.below) (named self.old.order.now)) register fields.now }
-        ensures after { permuted_cells (B.ReadBank.cells self.new.below) (named self.new.order.now) ≡ write_cells (permuted_cells (B.ReadBank.cells self.old.below) (named self.old.order.now)) register fields.now }
-        ensures size { length (permuted_cells (B.ReadBank.cells self.new.below) (named self.new.order.now)) ≡ length (permuted_cells (B.ReadBank.cells self.old.below) (named self.old.order.now)) }
-        ensures rest { permuted_rest (B.ReadBank.cells self.new.below) (named self.new.order.now) (B.WriteBank.rest self.new.below) ≡ permuted_rest (B.ReadBank.cells self.old.below) (named self.old.order.now) (B.WriteBank.rest self.old.below) }
-        ensures below { B.ReadBank.cells self.new.below ≡ write_below (permuted_place (named self.old.order.now) (length (B.ReadBank.cells self.old.below)) register) (B.ReadBank.cells self.old.below) fields.now }
+        ensures answer { numbered result ≡ write_answer (⟦<Permuted<'o, B> as ReadBank>⟧.cells self.old) register fields.now }
+        ensures after { ⟦<Permuted<'o, B> as ReadBank>⟧.cells self.new ≡ write_cells (⟦<Permuted<'o, B> as ReadBank>⟧.cells self.old) register fields.now }
+        ensures size { length (⟦<Permuted<'o, B> as ReadBank>⟧.cells self.new) ≡ length (⟦<Permuted<'o, B> as ReadBank>⟧.cells self.old) }
+        ensures rest { ⟦<Permuted<'o, B> as WriteBank>⟧.rest self.new ≡ ⟦<Permuted<'o, B> as WriteBank>⟧.rest self.old }
+        ensures below { B.cells self.new.below ≡ write_below (permuted_place (named self.old.order.now) (length (B.cells self.old.below)) register) (B.cells self.old.below) fields.now }
     {
-        match self.order.place(self.below.size(), register) {
-            None => Err(Refusal::NoRegister),
-            Some(at) => self.below.write(at, fields),
-        }
+        let place = self.order.place(self.below.size(), register);
+        let at = place.ok_or(Refusal::NoRegister)?;
+        self.below.write(at, fields)
     }
 }

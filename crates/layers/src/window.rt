@@ -40,62 +40,64 @@ impl<B> Window<B> {
         self.first = first;
         self.count = count;
     }
-}
 
-// How many registers a window has over `size` of them. No sum is taken, so none can wrap.
-fn span(size: usize, first: usize, count: usize) -> usize
-    ensures { result ≡ window_size size first count }
-{
-    if first < 1 || count < 1 || first > size || count - 1 > size - first {
-        0
-    } else {
-        count
+    // How many registers the window has over `size` of them: `first` has to be one of those, and
+    // `count` at most as many as there are from it on. No sum is taken that could wrap.
+    fn extent(&self, size: usize) -> usize
+        ensures { result ≡ window_size size self.now.first self.now.count }
+    {
+        let (first, count) = (self.first, self.count);
+        if (1..=size).contains(&first) && (1..=size - first + 1).contains(&count) {
+            count
+        } else {
+            0
+        }
+    }
+
+    // The register of `size` of them that a register of the window is.
+    fn place(&self, size: usize, register: usize) -> Option<usize>
+        ensures { result ≡ window_place size self.now.first self.now.count register }
+    {
+        if !(1..=self.extent(size)).contains(&register) {
+            return None;
+        }
+        Some(self.first + (register - 1))
     }
 }
 
-// The register below that a register of the window is.
-fn place(size: usize, first: usize, count: usize, register: usize) -> Option<usize>
-    ensures { result ≡ window_place size first count register }
-{
-    let count = span(size, first, count);
-    if register < 1 || register > count {
-        return None;
-    }
-    Some(first + (register - 1))
-}
-
+// The impls for a permutation's layer have the same shape. One layer over a trait of places was
+// written out and is no plainer: thirty lines more, since each map of places then owes laws on what
+// it shows, whose proofs would have to stand in specs/.
 impl<B: ReadBank> ReadBank for Window<B> {
     type Value = B::Value;
 
-    ghost cells = { λ w. window_cells (B.ReadBank.cells w.below) w.first w.count };
+    ghost cells = { λ w. window_cells (B.cells w.below) w.first w.count };
 
     fn size(&self) -> usize {
-        span(self.below.size(), self.first, self.count)
+        self.extent(self.below.size())
     }
 
     fn read(&self, register: usize) -> Result<Record<B::Value>, Refusal> {
-        match place(self.below.size(), self.first, self.count, register) {
-            None => Err(Refusal::NoRegister),
-            Some(at) => self.below.read(at),
-        }
+        let place = self.place(self.below.size(), register);
+        let at = place.ok_or(Refusal::NoRegister)?;
+        self.below.read(at)
     }
 }
 
 impl<B: WriteBank> WriteBank for Window<B> {
-    ghost Rest = { WindowRest B.Value B.WriteBank.Rest };
+    ghost Rest = { WindowRest B.Value B.Rest };
 
-    ghost rest = { λ w. window_rest (B.ReadBank.cells w.below) w.first w.count (B.WriteBank.rest w.below) };
+    ghost rest = { λ w. window_rest (B.cells w.below) w.first w.count (B.rest w.below) };
 
     fn write(&mut self, register: usize, fields: &Fields<B::Value>) -> Result<(), Refusal>
-        ensures answer { numbered result ≡ write_answer (window_cells (B.ReadBank.cells self.old.below) self.old.first self.old.count) register fields.now }
-        ensures after { window_cells (B.ReadBank.cells self.new.below) self.new.first self.new.count ≡ write_cells (window_cells (B.ReadBank.cells self.old.below) self.old.first self.old.count) register fields.now }
-        ensures size { length (window_cells (B.ReadBank.cells self.new.below) self.new.first self.new.count) ≡ length (window_cells (B.ReadBank.cells self.old.below) self.old.first self.old.count) }
-        ensures rest { window_rest (B.ReadBank.cells self.new.below) self.new.first self.new.count (B.WriteBank.rest self.new.below) ≡ window_rest (B.ReadBank.cells self.old.below) self.old.first self.old.count (B.WriteBank.rest self.old.below) }
-        ensures below { B.ReadBank.cells self.new.below ≡ write_below (window_place (length (B.ReadBank.cells self.old.below)) self.old.first self.old.count register) (B.ReadBank.cells self.old.below) fields.now }
+        ensures answer { numbered result ≡ write_answer (⟦<Window<B> as ReadBank>⟧.cells self.old) register fields.now }
+        ensures after { ⟦<Window<B> as ReadBank>⟧.cells self.new ≡ write_cells (⟦<Window<B> as ReadBank>⟧.cells self.old) register fields.now }
+        ensures size { length (⟦<Window<B> as ReadBank>⟧.cells self.new) ≡ length (⟦<Window<B> as ReadBank>⟧.cells self.old) }
+        ensures rest { ⟦<Window<B> as WriteBank>⟧.rest self.new ≡ ⟦<Window<B> as WriteBank>⟧.rest self.old }
+        ensures below { B.cells self.new.below ≡ write_below (window_place (length (B.cells self.old.below)) self.old.first self.old.count register) (B.cells self.old.below) fields.now }
     {
-        match place(self.below.size(), self.first, self.count, register) {
-            None => Err(Refusal::NoRegister),
-            Some(at) => self.below.write(at, fields),
-        }
+        let place = self.place(self.below.size(), register);
+        let at = place.ok_or(Refusal::NoRegister)?;
+        self.below.write(at, fields)
     }
 }

@@ -1,33 +1,16 @@
 // Making a permutation from a list, and looking up a place in it.
-ghost use Rattle.std.specs.Prelude.{◌≡◌, length};
-ghost use Rattle.layers.specs.Permutations.{times, each_once, kept_list, Permutes};
-ghost use Rattle.layers.specs.Permuting.{named, permuted_place};
+ghost use Rattle.std.specs.Prelude.{◌≡◌};
+ghost use Rattle.layers.specs.Permutations.{each_once, kept_list, Permutes};
+ghost use Rattle.layers.specs.Permuting.{named, permuted_size, permuted_place};
 
 use super::{MAX_PERMUTED, Permutation};
 
-// How often the list names the register.
-fn count_named(list: &[usize], register: usize) -> usize
-    ensures { result ≡ times register list.now }
-{
-    let mut n = 0;
-    for place in list {
-        if *place == register {
-            n += 1;
-        }
-    }
-    n
-}
-
-// Whether the list names each of as many registers as it is long exactly once.
+// Whether the list names each of as many registers as it is long exactly once. Tried with
+// `1..=list.len()`: what `all` answers on such a range stayed open.
 fn names_each_once(list: &[usize]) -> bool
     ensures { result ≡ each_once list.now }
 {
-    for k in 0..list.len() {
-        if count_named(list, k + 1) != 1 {
-            return false;
-        }
-    }
-    true
+    (1..list.len() + 1).all(|register| list.iter().filter(|place| **place == register).count() == 1)
 }
 
 impl Permutation {
@@ -41,22 +24,22 @@ impl Permutation {
         if count > MAX_PERMUTED || !names_each_once(list) {
             return Permutation { places, count: 0 };
         }
-        places[0..count].copy_from_slice(list);
+        places[..count].copy_from_slice(list);
         Permutation { places, count }
     }
 
-    // How many registers it names.
-    pub(crate) fn count(&self) -> usize
-        ensures { result ≡ length (named self.now) }
+    // How many registers a layer in this order has over `size` of them.
+    pub(crate) fn extent(&self, size: usize) -> usize
+        ensures { result ≡ permuted_size (named self.now) size }
     {
-        self.count
+        if self.count == size { size } else { 0 }
     }
 
     // The register of `size` of them that is named at this place, which is counted from 1.
     pub(crate) fn place(&self, size: usize, register: usize) -> Option<usize>
         ensures { result ≡ permuted_place (named self.now) size register }
     {
-        if self.count != size || register < 1 || register > size {
+        if !(1..=self.extent(size)).contains(&register) {
             return None;
         }
         Some(self.places[register - 1])
