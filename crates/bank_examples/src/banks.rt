@@ -70,13 +70,12 @@ fn only_block_128_changed(rt: &impl Abort, bytes: &[u8]) {
     let block = [
         0x44u8, 0, 0, 0, 0, 0, 0, 1, 0, 0, 0, 1, 0x42, 0, 0, 0, 0, 0, 0, 9,
     ];
-    for (i, byte) in bytes.iter().enumerate() {
-        let want = if 2540 <= i && i < 2560 {
-            block[i - 2540]
+    for (i, part) in bytes.chunks(20).enumerate() {
+        if i == 127 {
+            assert!(rt; part == block.as_slice());
         } else {
-            0x4E
-        };
-        assert_eq!(rt; *byte, want);
+            assert!(rt; part.iter().all(|byte| *byte == 0x4E));
+        }
     }
 }
 

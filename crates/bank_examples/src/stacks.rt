@@ -57,13 +57,12 @@ fn the_same_stack_on_bytes_with_choices(rt: HostRuntime) -> Result<(), Fail> {
     let block = [
         0x44, 0, 0, 0, 0, 0, 0, 1, 0, 0, 0, 1, 0x43, 7, 0, 2, 0, 0, 0, 0,
     ];
-    for (i, byte) in bytes.iter().enumerate() {
-        let want = if 40 <= i && i < 60 {
-            block[i - 40]
+    for (i, part) in bytes.chunks(20).enumerate() {
+        if i == 2 {
+            assert!(rt; part == block.as_slice());
         } else {
-            0x4E
-        };
-        assert_eq!(rt; *byte, want);
+            assert!(rt; part.iter().all(|byte| *byte == 0x4E));
+        }
     }
     Ok(())
 }

@@ -2,8 +2,9 @@
 use batches::batch::Batch;
 use choices::choice::Choice;
 use kinds::kind::Kind;
+use kinds::name::KindName;
 use report::view::view;
-use requests::{KindName, Request, Span};
+use requests::{Request, Span};
 use std::alloc::Global;
 use std::process::Abort;
 use std::test::Fail;
@@ -53,41 +54,27 @@ fn boxes_read_as_these_lines(rt: HostRuntime) -> Result<(), Fail> {
     shows::<Batch>(&rt, heap, 60, far, "registers,0\ndecision,\n")
 }
 
-// The letter of the kind, and the window; zeros where there is none.
-fn asked(request: Option<Request>) -> (u8, usize, usize) {
-    let Some(request) = request else {
-        return (0, 0, 0);
-    };
-    let kind = match request.kind {
-        KindName::Batch => b'B',
-        KindName::Choice => b'C',
-    };
-    match request.span {
-        None => (kind, 0, 0),
-        Some(span) => (kind, span.first, span.count),
-    }
-}
-
 #[test]
 fn arguments_ask_for_these_views(rt: HostRuntime) {
-    assert_eq!(rt; asked(Request::whole(b"C")), (b'C', 0, 0));
+    let whole = Request {
+        kind: KindName::Choice,
+        span: None,
+    };
+    assert_eq!(rt; Request::whole(b"C"), Some(whole));
     for kind in ["", "c", "BB", "D"] {
-        assert_eq!(rt; asked(Request::whole(kind.as_bytes())), (0, 0, 0));
-        assert_eq!(rt;
-            asked(Request::window(kind.as_bytes(), b"1", b"1")),
-            (0, 0, 0)
-        );
+        assert_eq!(rt; Request::whole(kind.as_bytes()), None);
+        assert_eq!(rt; Request::window(kind.as_bytes(), b"1", b"1"), None);
     }
-    let most = asked(Request::window(b"B", b"3", b"18446744073709551615"));
-    assert_eq!(rt; most, (b'B', 3, 18446744073709551615));
+    let most = Request {
+        kind: KindName::Batch,
+        span: span(3, 18446744073709551615),
+    };
+    assert_eq!(rt;
+        Request::window(b"B", b"3", b"18446744073709551615"),
+        Some(most)
+    );
     for number in ["", "01", "-1", "18446744073709551616"] {
-        assert_eq!(rt;
-            asked(Request::window(b"B", b"1", number.as_bytes())),
-            (0, 0, 0)
-        );
-        assert_eq!(rt;
-            asked(Request::window(b"B", number.as_bytes(), b"1")),
-            (0, 0, 0)
-        );
+        assert_eq!(rt; Request::window(b"B", b"1", number.as_bytes()), None);
+        assert_eq!(rt; Request::window(b"B", number.as_bytes(), b"1"), None);
     }
 }

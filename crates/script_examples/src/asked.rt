@@ -6,29 +6,23 @@ use choices::choice::Choice;
 use kinds::kind::Kind;
 use kinds::name::KindName;
 use script::fields::field_at;
-use script::line::Line;
+use script::line::{Line, Opening};
+use script::refusal::LineRefusal;
 use std::test::Fail;
 
-// The number of the refusal where nothing is open, or 0.
-fn before(line: &str) -> u8 {
-    match Line::parse(line.as_bytes()) {
-        Err(refusal) => refusal.number(),
-        Ok(line) => match line.opening() {
-            Err(refusal) => refusal.number(),
-            Ok(_) => 0,
-        },
-    }
+// What the line opens where nothing is open.
+fn before(line: &str) -> Result<Opening, LineRefusal> {
+    Line::parse(line.as_bytes())?.opening()
 }
 
-// The number of the refusal where three workers are open, or 0.
-fn after<K: Kind>(line: &str) -> u8 {
-    match Line::parse(line.as_bytes()) {
-        Err(refusal) => refusal.number(),
-        Ok(line) => match line.call::<K>(3) {
-            Err(refusal) => refusal.number(),
-            Ok(_) => 0,
-        },
-    }
+// What the line calls for where three workers are open.
+fn after<K: Kind>(line: &str) -> Result<Call<K>, LineRefusal> {
+    Line::parse(line.as_bytes())?.call(3)
+}
+
+// The number of the refusal, if it is one.
+fn refusal<T: Drop>(answer: Result<T, LineRefusal>) -> Option<u8> {
+    answer.err().map(u8::from)
 }
 
 // Lines of another shape, parted by semicolons; the first is empty and the last has 41 bytes.
@@ -38,77 +32,55 @@ const OTHERS: &str =
 #[test]
 fn other_shapes_are_refused_first(rt: HostRuntime) {
     for line in OTHERS.split(';') {
-        assert_eq!(rt; before(line), 13);
-        assert_eq!(rt; after::<Batch>(line), 13);
+        assert_eq!(rt; refusal(before(line)), Some(13));
+        assert_eq!(rt; refusal(after::<Batch>(line)), Some(13));
     }
 }
 
 #[test]
 fn lines_are_refused_by_their_place_and_value(rt: HostRuntime) {
     for (line, early, batch, choice) in [
-        ("O,0,B", 0u8, 15u8, 15u8),
-        ("O,255,C", 0, 15, 15),
-        ("G,0", 14, 0, 0),
-        ("W,255", 14, 0, 0),
-        ("L,1,0", 14, 0, 0),
-        ("S,255,255", 14, 0, 0),
-        ("P,1,", 14, 16, 16),
-        ("P,1,x", 14, 17, 17),
-        ("P,1,\r", 14, 17, 17),
-        ("P,1,5\r", 14, 17, 17),
-        ("P,1,05", 14, 17, 17),
-        ("P,0,4294967295", 14, 0, 17),
-        ("P,1,4294967296", 14, 17, 17),
-        ("P,1,95/65535", 14, 17, 0),
-        ("P,1,96/1", 14, 17, 17),
-        ("P,1,123456789012345678901234567890123456", 14, 17, 17),
+        ("O,0,B", None, Some(15u8), Some(15u8)),
+        ("O,255,C", None, Some(15), Some(15)),
+        ("G,0", Some(14), None, None),
+        ("W,255", Some(14), None, None),
+        ("L,1,0", Some(14), None, None),
+        ("S,255,255", Some(14), None, None),
+        ("P,1,", Some(14), Some(16), Some(16)),
+        ("P,1,x", Some(14), Some(17), Some(17)),
+        ("P,1,\r", Some(14), Some(17), Some(17)),
+        ("P,1,5\r", Some(14), Some(17), Some(17)),
+        ("P,1,05", Some(14), Some(17), Some(17)),
+        ("P,0,4294967295", Some(14), None, Some(17)),
+        ("P,1,4294967296", Some(14), Some(17), Some(17)),
+        ("P,1,95/65535", Some(14), Some(17), None),
+        ("P,1,96/1", Some(14), Some(17), Some(17)),
+        (
+            "P,1,123456789012345678901234567890123456",
+            Some(14),
+            Some(17),
+            Some(17),
+        ),
     ] {
-        assert_eq!(rt; before(line), early);
-        assert_eq!(rt; after::<Batch>(line), batch);
-        assert_eq!(rt; after::<Choice>(line), choice);
-    }
-}
-
-// The workers and the letter of the kind that a line opens; zeros where it opens nothing.
-fn opened(line: &[u8]) -> (usize, u8) {
-    let Ok(line) = Line::parse(line) else {
-        return (0, 0);
-    };
-    match line.opening() {
-        Err(_) => (0, 0),
-        Ok(opening) => match opening.kind {
-            KindName::Batch => (opening.workers, b'B'),
-            KindName::Choice => (opening.workers, b'C'),
-        },
-    }
-}
-
-// The worker and the hint of a step, where three workers are open.
-fn stepped(line: &[u8]) -> Option<(usize, Hint)> {
-    let Ok(line) = Line::parse(line) else {
-        return None;
-    };
-    match line.call::<Batch>(3) {
-        Ok(Call::Step { worker, hint }) => Some((worker, hint)),
-        _ => None,
-    }
-}
-
-fn proposed(line: &[u8]) -> Option<(usize, Batch)> {
-    let Ok(line) = Line::parse(line) else {
-        return None;
-    };
-    match line.call::<Batch>(3) {
-        Ok(Call::Propose { worker, value }) => Some((worker, value)),
-        _ => None,
+        assert_eq!(rt; refusal(before(line)), early);
+        assert_eq!(rt; refusal(after::<Batch>(line)), batch);
+        assert_eq!(rt; refusal(after::<Choice>(line)), choice);
     }
 }
 
 #[test]
 fn lines_ask_for_these_calls(rt: HostRuntime) {
-    assert_eq!(rt; opened(b"O,2,B"), (2, b'B'));
-    assert_eq!(rt; opened(b"O,255,C"), (255, b'C'));
-    assert_eq!(rt; proposed(b"P,255,7"), Some((255, Batch::new(7))));
+    for (line, workers, kind) in [
+        ("O,2,B", 2usize, KindName::Batch),
+        ("O,255,C", 255, KindName::Choice),
+    ] {
+        assert_eq!(rt; before(line), Ok(Opening { workers, kind }));
+    }
+    let proposal = Call::Propose {
+        worker: 255,
+        value: Batch::new(7),
+    };
+    assert_eq!(rt; after("P,255,7"), Ok(proposal));
     for (line, worker, hint) in [
         ("G,1", 1usize, Hint::Go),
         ("W,2", 2, Hint::Wait),
@@ -121,7 +93,7 @@ fn lines_ask_for_these_calls(rt: HostRuntime) {
         ("S,3,7", 3, Hint::Wait),
         ("S,4,7", 4, Hint::Wait),
     ] {
-        assert_eq!(rt; stepped(line.as_bytes()), Some((worker, hint)));
+        assert_eq!(rt; after::<Batch>(line), Ok(Call::Step { worker, hint }));
     }
 }
 

@@ -12,10 +12,8 @@ use std::test::Fail;
 
 // None for a line of another shape.
 fn head(line: &str) -> Option<Head> {
-    match Line::parse(line.as_bytes()) {
-        Ok(line) => Some(line.head()),
-        Err(_) => None,
-    }
+    let line = Line::parse(line.as_bytes()).ok()?;
+    Some(line.head())
 }
 
 fn prints<K: Kind>(
