@@ -1,8 +1,5 @@
-pub mod Working
-pub mod Soundness
-pub mod Lawfulness
-pub mod Stepping
 pub mod Rows
+pub mod Stepping
 pub mod Wholes
-pub mod Clearing
 pub mod Counting
+pub mod Opening

@@ -1,6 +1,6 @@
 -- What open and propose do, and what a tally counts.
-use Rattle.std.specs.Prelude.{ℕ, ◌+◌, ◌-◌, Bool, true, false, cond, List, [], ◌∷◌, map, length, Some, None, Ok, Err, Option, Result, slice_set}
-use Rattle.std.specs.List.{slice_get, range_with_len}
+use Rattle.std.specs.Prelude.{ℕ, ◌+◌, ◌-◌, Bool, true, false, cond, List, map, length, Some, None, Ok, Err, Option, Result, slice_set}
+use Rattle.std.specs.List.{slice_get, range_with_len, count_by}
 use Rattle.registers.specs.Records.{fields_of, blank}
 use Rattle.registers.specs.Cells.{Cell, stands}
 use Rattle.calls.specs.declared.refusal.CallRefusal.{CallRefusal}
@@ -21,10 +21,6 @@ pub record Proposal (V : Type 0) : Type 0 where
 pub record Row (X V : Type 0) : Type 0 where
   pub answer : Result X ℕ
   pub states : List (State V)
-
-abbrev pub one_if : Bool → ℕ
-one_if true = 1
-one_if false = 0
 
 module _ {V : Type 0} where
   -- worker i of n before its first call
@@ -83,11 +79,6 @@ module _ {V : Type 0} where
   has_decided (Sure candidate) = false
   has_decided (Decided value) = true
 
-  -- how many of the workers pass a test
-  abbrev pub count_of : (State V → Bool) → List (State V) → ℕ
-  count_of test [] = 0
-  count_of test (s ∷ ss) = one_if (test s) + count_of test ss
-
   -- how many have decided, and how many have crashed
   abbrev pub tally_of : List (State V) → ℕ × ℕ
-  tally_of states = (count_of (λ s. has_decided s.phase) states, count_of (λ s. s.crashed) states)
+  tally_of states = (count_by (λ s. has_decided s.phase) states, count_by (λ s. s.crashed) states)

@@ -1,7 +1,7 @@
 -- Which states a worker can be in: what it writes is lawful, and what it reads stands.
 use Rattle.std.specs.Prelude.{ℕ, Bool, true, ◌&&◌, nat_le}
 use Rattle.registers.specs.Cells.{stands}
-use Rattle.registers.specs.Records.{fits}
+use Rattle.registers.specs.Lawful.{is_lawful}
 use Rattle.protocol.specs.declared.state.Phase.{Phase}
 use Rattle.protocol.specs.declared.state.Phase.TheVariants.{Idle, First, Ready, Second, Sure, Decided}
 use Rattle.protocol.specs.declared.state.State.{State}
@@ -20,6 +20,6 @@ module _ {V : Type 0} where
   is_sound s =
       stands s.total s.number
       && (stands s.total s.watch
-      && (fits s.own
+      && (is_lawful s.own
       && (nat_le s.own.round s.seen
       && phase_sound s.total s.own.round s.phase)))

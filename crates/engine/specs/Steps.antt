@@ -1,12 +1,12 @@
 -- What a step does on the whole row: the answer, the workers and the cells after it, as one definition.
-use Rattle.std.specs.Prelude.{ℕ, ◌-◌, Bool, cond, ◌&&◌, List, length, Some, None, Err, Option, Result, ◌==◌, nat_le, slice_set}
+use Rattle.std.specs.Prelude.{ℕ, ◌-◌, Bool, cond, ◌&&◌, List, length, Some, None, Ok, Err, Option, Result, ◌==◌, nat_le, slice_set}
 use Rattle.std.specs.List.{slice_get}
 use Rattle.registers.specs.Cells.{Cell, stands}
 use Rattle.calls.specs.declared.hint.Hint.{Hint}
 use Rattle.calls.specs.declared.outcome.Effect.{Effect}
 use Rattle.calls.specs.declared.refusal.CallRefusal.{CallRefusal}
 use Rattle.calls.specs.declared.refusal.CallRefusal.TheVariants.{Size, NoWorker, Misplaced, Crashed, NoProposal}
-use Rattle.calls.specs.CallRefusals.{call_refusal_number}
+use Rattle.calls.specs.CallRefusals.{call_refusal_number, call_numbered}
 use Rattle.protocol.specs.declared.state.State.{State}
 use Rattle.protocol.specs.Rounds.{max_workers}
 use Rattle.actions.specs.Actions.{After, refused, taken}
@@ -25,6 +25,16 @@ is_row n = nat_le 2 n && nat_le n max_workers
 abbrev pub sizes_fit : ℕ → ℕ → Bool
 sizes_fit size n = is_row size && size == n
 
+-- the place of worker i in a row of n, from 0
+abbrev pub place_answer : ℕ → ℕ → Result ℕ ℕ
+place_answer i n = cond (stands n i) (Ok (i - 1)) (Err (call_refusal_number NoWorker))
+
+abbrev pub row_answer : ℕ → Result (Unit {0}) ℕ
+row_answer n = cond (is_row n) (Ok tt) (Err (call_refusal_number Size))
+
+abbrev pub sizes_answer : ℕ → ℕ → Result (Unit {0}) ℕ
+sizes_answer size n = cond (sizes_fit size n) (Ok tt) (Err (call_refusal_number Size))
+
 module _ {V : Type 0} where
   abbrev pub proposing : Option V → Hint → State V → List (Cell V) → After V
   proposing None h s cells = refused NoProposal s cells
@@ -34,6 +44,13 @@ module _ {V : Type 0} where
   abbrev pub is_at : State V → ℕ → ℕ → Bool
   is_at s i n = s.number == i && s.total == n
 
+  -- it was, and has not crashed
+  abbrev pub fit_answer : State V → ℕ → ℕ → Result (Unit {0}) ℕ
+  fit_answer s i n =
+      cond (is_at s i n)
+      (cond s.crashed (Err (call_refusal_number Crashed)) (Ok tt))
+      (Err (call_refusal_number Misplaced))
+
   -- the step of the worker at place i of n
   abbrev pub worker_step : Hint → State V → ℕ → ℕ → List (Cell V) → After V
   worker_step h s i n cells =
@@ -42,6 +59,10 @@ module _ {V : Type 0} where
       (refused Misplaced s cells)
 
   module _ {X : Type 0} where
+    -- what a call left, by its answer, the row and the cells at the return
+    abbrev pub whole : Result X CallRefusal → List (State V) → List (Cell V) → Whole X V
+    whole answer states cells = record { answer = call_numbered answer; states = states; cells = cells }
+
     abbrev pub unchanged : CallRefusal → List (State V) → List (Cell V) → Whole X V
     unchanged e states cells = record { answer = Err (call_refusal_number e); states = states; cells = cells }
 

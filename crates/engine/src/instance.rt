@@ -1,7 +1,8 @@
 // The calls on an instance: a row of workers in the caller's memory, and a bank with a register for each.
-ghost use Rattle.std.specs.Prelude.{◌≡◌, length};
+// Both are lent for each call and no struct holds them: a worker is changed where the caller has it.
+ghost use Rattle.std.specs.Prelude.{◌≡◌, ◌<◌, length, IfOk};
 ghost use Rattle.calls.specs.CallRefusals.{call_numbered};
-ghost use Rattle.engine.specs.Steps.{is_row, sizes_fit, step_whole};
+ghost use Rattle.engine.specs.Steps.{row_answer, sizes_answer, place_answer, whole, step_whole};
 ghost use Rattle.engine.specs.Instances.{fresh_states, blank_cells, open_whole, propose_row, tally_of};
 ghost use Rattle.engine.specs.StepLaws.{StepLaw, OnlyUnreadable, RowKept, Kept};
 ghost use Rattle.engine.specs.Rows.{states};
@@ -19,18 +20,39 @@ use registers::record::Record;
 // The fewest workers of a row.
 pub const MIN_WORKERS: usize = 2;
 
-// A row has 2 to 8 workers.
-fn is_row(total: usize) -> bool
-    ensures { result ≡ is_row total }
+// Refuses (4) a row that is not 2 to 8 long.
+fn check_row(total: usize) -> Result<(), CallRefusal>
+    ensures { call_numbered result ≡ row_answer total }
 {
-    MIN_WORKERS <= total && total <= MAX_WORKERS
+    if (MIN_WORKERS..=MAX_WORKERS).contains(&total) {
+        Ok(())
+    } else {
+        Err(CallRefusal::Size)
+    }
 }
 
-// A bank has as many registers as the row has workers.
-fn sizes_fit(size: usize, total: usize) -> bool
-    ensures { result ≡ sizes_fit size total }
+// Refuses (4) a bank whose size is not 2 to 8 or not the number of workers.
+fn check_sizes(size: usize, total: usize) -> Result<(), CallRefusal>
+    ensures { call_numbered result ≡ sizes_answer size total }
 {
-    is_row(size) && size == total
+    check_row(size)?;
+    if size == total {
+        Ok(())
+    } else {
+        Err(CallRefusal::Size)
+    }
+}
+
+// The place of a worker in a row, from 0. Refuses (5) a number outside the row.
+fn place(worker: usize, total: usize) -> Result<usize, CallRefusal>
+    ensures value { call_numbered result ≡ place_answer worker total }
+    ensures within { IfOk result (λ k. k < total) }
+{
+    if (1..=total).contains(&worker) {
+        Ok(worker - 1)
+    } else {
+        Err(CallRefusal::NoWorker)
+    }
 }
 
 // Puts a worker that has done nothing at every place.
@@ -38,8 +60,8 @@ fn renew<V: Copy>(workers: &mut [Worker<V>])
     ensures { states workers.new ≡ fresh_states (length workers.old) }
 {
     let total = workers.len();
-    for i in 0..total {
-        workers[i] = Worker::opened(i + 1, total);
+    for (i, worker) in workers.iter_mut().enumerate() {
+        *worker = Worker::opened(i + 1, total);
     }
 }
 
@@ -50,9 +72,9 @@ fn clear<V: Copy, B: WriteBank<Value = V>>(bank: &mut B)
 {
     let size = bank.size();
     let blank = Record::blank().fields();
-    for i in 0..size {
+    for register in 1..=size {
         // the bank accepts it: the register stands, and the blank record is lawful
-        let _ = bank.write(i + 1, &blank);
+        let _ = bank.write(register, &blank);
     }
 }
 
@@ -62,16 +84,11 @@ pub fn open<V: Copy, B: WriteBank<Value = V>>(
     workers: &mut [Worker<V>],
     bank: &mut B,
 ) -> Result<(), CallRefusal>
-    ensures answer { call_numbered result ≡ (open_whole (states workers.old) (B.ReadBank.cells bank.old)).answer }
-    ensures workers { states workers.new ≡ (open_whole (states workers.old) (B.ReadBank.cells bank.old)).states }
-    ensures cells { B.ReadBank.cells bank.new ≡ (open_whole (states workers.old) (B.ReadBank.cells bank.old)).cells }
+    ensures whole { whole result (states workers.new) (B.ReadBank.cells bank.new) ≡ open_whole (states workers.old) (B.ReadBank.cells bank.old) }
     ensures rest { B.rest bank.new ≡ B.rest bank.old }
     ensures kept { Kept (call_numbered result) (states workers.old) (states workers.new) (B.ReadBank.cells bank.old) (B.ReadBank.cells bank.new) }
 {
-    let size = bank.size();
-    if !sizes_fit(size, workers.len()) {
-        return Err(CallRefusal::Size);
-    }
+    check_sizes(bank.size(), workers.len())?;
     renew(workers);
     clear(bank);
     Ok(())
@@ -90,13 +107,9 @@ pub fn propose<V: Copy>(
     ensures kept { RowKept (call_numbered result) (states workers.old) (states workers.new) }
 {
     let total = workers.len();
-    if !is_row(total) {
-        return Err(CallRefusal::Size);
-    }
-    if worker < 1 || total < worker {
-        return Err(CallRefusal::NoWorker);
-    }
-    workers[worker - 1].propose(worker, total, value)
+    check_row(total)?;
+    let place = place(worker, total)?;
+    workers[place].propose(worker, total, value)
 }
 
 // One step of a worker, which reads one register or writes its own. Refuses as open does (4) and
@@ -108,23 +121,16 @@ pub fn step<V: Copy, B: WriteBank<Value = V>>(
     worker: usize,
     hint: Hint,
 ) -> Result<Effect<V>, CallRefusal>
-    ensures answer { call_numbered result ≡ (step_whole (states workers.old) (B.ReadBank.cells bank.old) worker hint).answer }
-    ensures workers { states workers.new ≡ (step_whole (states workers.old) (B.ReadBank.cells bank.old) worker hint).states }
-    ensures cells { B.ReadBank.cells bank.new ≡ (step_whole (states workers.old) (B.ReadBank.cells bank.old) worker hint).cells }
+    ensures whole { whole result (states workers.new) (B.ReadBank.cells bank.new) ≡ step_whole (states workers.old) (B.ReadBank.cells bank.old) worker hint }
     ensures rest { B.rest bank.new ≡ B.rest bank.old }
     ensures kept { Kept (call_numbered result) (states workers.old) (states workers.new) (B.ReadBank.cells bank.old) (B.ReadBank.cells bank.new) }
     ensures law { StepLaw worker (states workers.old) (states workers.new) (B.ReadBank.cells bank.old) (B.ReadBank.cells bank.new) }
     ensures unreadable { OnlyUnreadable (call_numbered result) (states workers.old) (B.ReadBank.cells bank.old) worker hint }
 {
     let total = workers.len();
-    let size = bank.size();
-    if !sizes_fit(size, total) {
-        return Err(CallRefusal::Size);
-    }
-    if worker < 1 || total < worker {
-        return Err(CallRefusal::NoWorker);
-    }
-    workers[worker - 1].step(bank, worker, total, hint)
+    check_sizes(bank.size(), total)?;
+    let place = place(worker, total)?;
+    workers[place].step(bank, worker, total, hint)
 }
 
 // One call of a list.
@@ -133,21 +139,15 @@ pub fn make<V: Copy, B: WriteBank<Value = V>>(
     bank: &mut B,
     call: Call<V>,
 ) -> Result<Answer<V>, CallRefusal>
-    ensures answer { call_numbered result ≡ (call_whole call (states workers.old) (B.ReadBank.cells bank.old)).answer }
-    ensures workers { states workers.new ≡ (call_whole call (states workers.old) (B.ReadBank.cells bank.old)).states }
-    ensures cells { B.ReadBank.cells bank.new ≡ (call_whole call (states workers.old) (B.ReadBank.cells bank.old)).cells }
+    ensures whole { whole result (states workers.new) (B.ReadBank.cells bank.new) ≡ call_whole call (states workers.old) (B.ReadBank.cells bank.old) }
     ensures rest { B.rest bank.new ≡ B.rest bank.old }
     ensures kept { Kept (call_numbered result) (states workers.old) (states workers.new) (B.ReadBank.cells bank.old) (B.ReadBank.cells bank.new) }
 {
     match call {
-        Call::Propose { worker, value } => match propose(workers, worker, value) {
-            Ok(()) => Ok(Answer::Proposed(value)),
-            Err(refusal) => Err(refusal),
-        },
-        Call::Step { worker, hint } => match step(workers, bank, worker, hint) {
-            Ok(effect) => Ok(Answer::Stepped(effect)),
-            Err(refusal) => Err(refusal),
-        },
+        Call::Propose { worker, value } => {
+            propose(workers, worker, value).map(|()| Answer::Proposed(value))
+        }
+        Call::Step { worker, hint } => step(workers, bank, worker, hint).map(Answer::Stepped),
     }
 }
 
@@ -157,6 +157,7 @@ pub fn tally<V: Copy>(workers: &[Worker<V>]) -> (usize, usize)
 {
     let mut decided = 0;
     let mut crashed = 0;
+    // a `for` loop, as the project's rules ask
     for worker in workers {
         decided += usize::from(worker.has_decided());
         crashed += usize::from(worker.has_crashed());

@@ -7,7 +7,7 @@ use protocol::state::State;
 pub mod clone;
 pub mod methods;
 
-#[derive(Copy)]
+#[derive(Copy, PartialEq, Eq, Debug)]
 pub struct Worker<V> {
     state: State<V>,
     ghost sound: { is_sound state ≡ true },

@@ -1,7 +1,8 @@
 // Making workers, and what one worker does in a call.
 ghost use Rattle.std.specs.Prelude.{◌≡◌, ◌≤◌};
 ghost use Rattle.calls.specs.CallRefusals.{call_numbered};
-ghost use Rattle.engine.specs.Steps.{worker_step};
+ghost use Rattle.actions.specs.Actions.{left};
+ghost use Rattle.engine.specs.Steps.{fit_answer, worker_step};
 ghost use Rattle.engine.specs.Instances.{fresh, worker_propose, has_decided};
 
 use super::Worker;
@@ -61,6 +62,19 @@ impl<V: Copy> Worker<V> {
         self.state.crashed
     }
 
+    // Refuses a worker that was not opened at place `number` of `total`, and a crashed one.
+    fn check(&self, number: usize, total: usize) -> Result<(), CallRefusal>
+        ensures { call_numbered result ≡ fit_answer self.now.state number total }
+    {
+        if self.state.number != number || self.state.total != total {
+            return Err(CallRefusal::Misplaced);
+        }
+        if self.state.crashed {
+            return Err(CallRefusal::Crashed);
+        }
+        Ok(())
+    }
+
     // The proposal of the worker at place `number` of `total`.
     pub(crate) fn propose(
         &mut self,
@@ -71,12 +85,7 @@ impl<V: Copy> Worker<V> {
         ensures answer { call_numbered result ≡ (worker_propose self.old.state number total value).answer }
         ensures state { self.new.state ≡ (worker_propose self.old.state number total value).state }
     {
-        if self.state.number != number || self.state.total != total {
-            return Err(CallRefusal::Misplaced);
-        }
-        if self.state.crashed {
-            return Err(CallRefusal::Crashed);
-        }
+        self.check(number, total)?;
         if self.state.proposal.is_some() {
             return Err(CallRefusal::Proposed);
         }
@@ -92,20 +101,11 @@ impl<V: Copy> Worker<V> {
         total: usize,
         hint: Hint,
     ) -> Result<Effect<V>, CallRefusal>
-        ensures answer { call_numbered result ≡ (worker_step hint self.old.state number total (B.ReadBank.cells bank.old)).answer }
-        ensures state { self.new.state ≡ (worker_step hint self.old.state number total (B.ReadBank.cells bank.old)).state }
-        ensures cells { B.ReadBank.cells bank.new ≡ (worker_step hint self.old.state number total (B.ReadBank.cells bank.old)).cells }
+        ensures after { left result self.new.state (B.ReadBank.cells bank.new) ≡ worker_step hint self.old.state number total (B.ReadBank.cells bank.old) }
         ensures rest { B.rest bank.new ≡ B.rest bank.old }
     {
-        if self.state.number != number || self.state.total != total {
-            return Err(CallRefusal::Misplaced);
-        }
-        if self.state.crashed {
-            return Err(CallRefusal::Crashed);
-        }
-        let Some(proposal) = self.state.proposal else {
-            return Err(CallRefusal::NoProposal);
-        };
+        self.check(number, total)?;
+        let proposal = self.state.proposal.ok_or(CallRefusal::NoProposal)?;
         act(&mut self.state, bank, proposal, hint)
     }
 }

@@ -1,23 +1,23 @@
-use Rattle.std.proofs.Common.{refl, ap, ◌∙◌}
-use Rattle.engine.specs.Instances.{blank_cells}
-use Rattle.engine.proofs.Wholes.{open_size, open_here, sized}
+use Rattle.std.proofs.Common.{length, Ok, Err, sym, ap, ◌∙◌}
+use Rattle.std.proofs.lemmas.Result.{err_from_is_err_and}
+use Rattle.calls.specs.CallRefusals.{call_numbered}
+use Rattle.engine.specs.Steps.{whole}
+use Rattle.engine.specs.Instances.{fresh_states}
+use Rattle.engine.specs.Rows.{states}
+use Rattle.engine.proofs.Opening.{open_size, open_here}
 use Rattle.engine.proofs.instance.open.Goals as goal
 
-pub returns-then-not-sizes_fit : goal.returns-then-not-sizes_fit
-returns-then-not-sizes_fit g c =
-    let e = open_size c.args.workers.now (g.B.ReadBank.cells c.args.bank.now) _ c.size-size.ensures c.if-not-sizes_fit.ensures in
-    record { answer = ap (λ w. w.answer) e; workers = ap (λ w. w.states) e; cells = ap (λ w. w.cells) e; rest = refl; kept = (refl, refl) }
-
-pub returns : goal.returns
-returns g c =
+pub returns-in_err-check_sizes-clause-whole : goal.returns-in_err-check_sizes-clause-whole
+returns-in_err-check_sizes-clause-whole g c =
     let ws = c.args.workers.now in
     let cells = g.B.ReadBank.cells c.args.bank.now in
-    let e = open_here ws cells _ c.size-size.ensures c.if-not-sizes_fit.ensures in
-    let same = sized ws cells _ c.size-size.ensures c.if-not-sizes_fit.ensures in
-    record {
-      answer = ap (λ w. w.answer) e;
-      workers = c.renew.ensures ∙ ap (λ w. w.states) e;
-      cells = c.clear.ensures.cells ∙ ap blank_cells same ∙ ap (λ w. w.cells) e;
-      rest = c.clear.ensures.rest;
-      kept = tt;
-    }
+    let p = err_from_is_err_and c.from_residual.result c.from_residual.ensures.1 in
+    ap (λ r. whole r (states ws) cells) (p.1 ∙ ap Err p.2) ∙ open_size ws cells _ c.size.ensures _ _ c.check_sizes.ensures c.in_err-check_sizes.was
+
+pub returns-clause-whole : goal.returns-clause-whole
+returns-clause-whole g c =
+    let ws = c.args.workers.now in
+    let fit = sym c.check_sizes.ensures ∙ ap call_numbered c.in_ok-check_sizes.was in
+    ap (λ row. whole (Ok tt) row (g.B.ReadBank.cells c.clear.new.bank)) c.renew.ensures
+    ∙ ap (whole (Ok tt) (fresh_states (length ws))) c.clear.ensures.cells
+    ∙ open_here ws (g.B.ReadBank.cells c.args.bank.now) _ c.size.ensures fit

@@ -1,31 +1,33 @@
-use Rattle.std.proofs.Common.{◌-◌, ◌<◌, length, set, refl, ap, ◌∙◌, arith, rules}
+use Rattle.std.proofs.Common.{Err, set, sym, ap, ◌∙◌}
+use Rattle.std.proofs.lemmas.Result.{err_from_is_err_and}
+use Rattle.calls.specs.CallRefusals.{call_numbered}
 use Rattle.engine.specs.Rows.{states}
 use Rattle.engine.proofs.Rows.{states_set}
-use Rattle.engine.proofs.Wholes.{propose_size, propose_none, propose_here, propose_kept}
+use Rattle.engine.proofs.Wholes.{propose_size, propose_nowhere, propose_here, propose_kept}
 use Rattle.engine.proofs.instance.propose.Goals as goal
 
-pub returns-then-not-is_row : goal.returns-then-not-is_row
-returns-then-not-is_row g c =
-    let e = propose_size c.args.workers.now c.args.worker c.args.value c.if-not-is_row.ensures in
-    record { answer = ap (λ r. r.answer) e; workers = ap (λ r. r.states) e; kept = refl }
+pub returns-in_err-check_row-clause-workers : goal.returns-in_err-check_row-clause-workers
+returns-in_err-check_row-clause-workers g c =
+    ap (λ r. r.states) (propose_size c.args.workers.now c.args.worker c.args.value _ _ c.check_row.ensures c.in_err-check_row.was)
 
-pub returns-then-worker-lt1 : goal.returns-then-worker-lt1
-returns-then-worker-lt1 g c =
-    let e = propose_none c.args.workers.now c.args.worker c.args.value c.if-not-is_row.ensures c.then-worker-lt1.either in
-    record { answer = ap (λ r. r.answer) e; workers = ap (λ r. r.states) e; kept = refl }
+pub returns-in_err-place-clause-answer : goal.returns-in_err-place-clause-answer
+returns-in_err-place-clause-answer g c =
+    let p = err_from_is_err_and c.from_residual-in_err-place.result c.from_residual-in_err-place.ensures.1 in
+    let fit = sym c.check_row.ensures ∙ ap call_numbered c.in_ok-check_row.was in
+    ap call_numbered (p.1 ∙ ap Err p.2) ∙ ap (λ r. r.answer) (propose_nowhere c.args.workers.now c.args.worker c.args.value _ _ fit c.place.ensures.value c.in_err-place.was)
 
-pub offset_bounds-workers-worker : goal.offset_bounds-workers-worker
-offset_bounds-workers-worker g c = let h : c.args.worker - 1 < length c.args.workers.now = omega arith in search rules
+pub returns-in_err-place-clause-workers : goal.returns-in_err-place-clause-workers
+returns-in_err-place-clause-workers g c =
+    let fit = sym c.check_row.ensures ∙ ap call_numbered c.in_ok-check_row.was in
+    ap (λ r. r.states) (propose_nowhere c.args.workers.now c.args.worker c.args.value _ _ fit c.place.ensures.value c.in_err-place.was)
 
 pub returns : goal.returns
 returns g c =
     let ws = c.args.workers.now in
-    let w = c.propose.ensures in
-    let d = c.index-workers-worker.result in
-    let row = states_set ws (c.args.worker - 1) c.propose.new.self ∙ ap (set (states ws) (c.args.worker - 1)) w.state in
-    let e = propose_here ws c.args.worker c.args.value c.if-not-is_row.ensures c.if-worker-lt1.false c.if-total-worker.false d in
-    record {
-      answer = w.answer ∙ ap (λ r. r.answer) e;
-      workers = row ∙ ap (λ r. r.states) e;
-      kept = propose_kept ws c.args.worker c.args.value c.if-worker-lt1.false c.if-total-worker.false d _ _ w.answer row;
-    }
+    let k = c.in_ok-place.place in
+    let fit = sym c.check_row.ensures ∙ ap call_numbered c.in_ok-check_row.was in
+    let at = sym c.place.ensures.value ∙ ap call_numbered c.in_ok-place.was in
+    let e = propose_here ws c.args.worker k at c.index-workers-place.result c.args.value fit in
+    let answer = c.propose.ensures.answer ∙ ap (λ r. r.answer) e in
+    let workers = states_set ws k c.propose.new.self ∙ ap (set (states ws) k) c.propose.ensures.state ∙ ap (λ r. r.states) e in
+    record { answer = answer; workers = workers; kept = propose_kept ws c.args.worker c.args.value _ _ answer workers }
