@@ -5,7 +5,7 @@ use Rattle.std.proofs.lemmas.Bool.Decides.{nat_tests}
 use Rattle.batches.specs.declared.batch.Batch.{Batch}
 use Rattle.batches.specs.BatchForms.{batch, batch_image, batch_of_image, is_batch_image, batch_text, batch_from, batch_of_text}
 use Rattle.kinds.specs.Words.{word32}
-use Rattle.decimals.proofs.Apart.{none_some}
+use Rattle.std.proofs.lemmas.Option.{none-some}
 use Rattle.decimals.proofs.DecimalLaws.{back_decimal}
 use Rattle.kinds.proofs.WordLaws.{bytes_of_word, eight}
 
@@ -25,7 +25,7 @@ only_batch_image xs long p q r s b e = by (cases_Bool (is_batch_image xs))
         let bytes = bytes_of_word (get_or xs 4 0) (get_or xs 5 0) (get_or xs 6 0) (get_or xs 7 0) p q r s in
         let all = eight xs long in
         cc
-    by (inr f) = absurd (none_some (sym (cond-false (is_batch_image xs) read None f) ∙ e))
+    by (inr f) = absurd (none-some _ (sym (cond-false (is_batch_image xs) read None f) ∙ e))
 
 pub back_batch_text : (b : Batch) → b.number < 2 ^ 32 → batch_of_text (batch_text b) ≡ Some b
 back_batch_text b h = ap batch_from (back_decimal b.number (omega arith)) ∙ cond-true (ltb b.number (2 ^ 32)) (Some b) None (lt-ltb _ _ h)

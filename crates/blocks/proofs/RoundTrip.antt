@@ -1,7 +1,7 @@
 -- A block gives back the record that it was made from, and a block that reads as a record is that record's.
 use Rattle.std.proofs.Common.{◌≡◌, ℕ, true, List, length, get_or, take, drop, Some, None, Option, sym, refl, ap, ◌∙◌, true≢false, arith}
 use Rattle.std.proofs.lemmas.Bool.{cond-true}
-use Rattle.decimals.proofs.Apart.{none_some}
+use Rattle.std.proofs.lemmas.Option.{none-some}
 use Rattle.kinds.specs.Words.{bytes32}
 use Rattle.kinds.proofs.WordLaws.{word_of_bytes}
 use Rattle.registers.specs.declared.tag.Tag.{Tag}
@@ -28,7 +28,7 @@ module _ {V : Type 0} (of_image : List ℕ → Option V) (image_of : V → List 
     where
       by : (t : Tag) (v : Option V) → Accepts f.accepted t v → ImagedBack image_of of_image v → value_of of_image (value_bytes image_of v) t ≡ Some v
       by Untagged None h back = refl
-      by Untagged (Some v) h back = absurd (none_some (sym h.1))
+      by Untagged (Some v) h back = absurd (none-some _ (sym h.1))
       by Pro None h back = absurd (true≢false (sym h.1))
       by Pro (Some v) h back = ap present back
       by Dec None h back = absurd (true≢false (sym h.1))

@@ -9,7 +9,7 @@ use Rattle.choices.specs.ChoiceForms.{choice_if, choice_of, choice_image, is_cho
 use Rattle.decimals.specs.Decimals.{read_decimal}
 use Rattle.choices.specs.Regions.{is_choice}
 use Rattle.kinds.specs.Words.{bytes16, word16}
-use Rattle.decimals.proofs.Apart.{none_some}
+use Rattle.std.proofs.lemmas.Option.{none-some}
 use Rattle.decimals.proofs.DecimalLaws.{only_decimal, back_decimal, decimal_digits}
 use Rattle.choices.proofs.SlashLaws.{slash_splits, slash_after}
 use Rattle.kinds.proofs.WordLaws.{half_of_bytes, eight}
@@ -29,7 +29,7 @@ choice_if_only : (r e : ℕ) (b : Bool) (p : is_choice r e ≡ b) (c : Choice) �
 choice_if_only r e true p c q =
     let same : kept r e p ≡ c = cc in
     (sym (ap (λ d. d.region) same), sym (ap (λ d. d.edition) same))
-choice_if_only r e false p c q = absurd (none_some q)
+choice_if_only r e false p c q = absurd (none-some _ q)
 
 -- what a lawful pair makes, and an unlawful one
 pub choice_some : (r e : ℕ) (t : is_choice r e ≡ true) → Some (kept r e t) ≡ choice_of r e
@@ -71,11 +71,11 @@ only_choice_image xs long half c e = by (cases_Bool (is_choice_image xs))
         let edition = ap bytes16 fields.1 ∙ half in
         let all = eight xs long in
         cc
-    by (inr f) = absurd (none_some (sym (cond-false (is_choice_image xs) read None f) ∙ e))
+    by (inr f) = absurd (none-some _ (sym (cond-false (is_choice_image xs) read None f) ∙ e))
 
 from_only : (a b : Option ℕ) (c : Choice) → choice_from a b ≡ Some c → (a ≡ Some c.region) × (b ≡ Some c.edition)
-from_only None b c e = absurd (none_some e)
-from_only (Some r) None c e = absurd (none_some e)
+from_only None b c e = absurd (none-some _ e)
+from_only (Some r) None c e = absurd (none-some _ e)
 from_only (Some r) (Some n) c e = let p = choice_only r n c e in (ap Some (sym p.0), ap Some (sym p.1))
 
 -- texts
@@ -83,7 +83,7 @@ pub only_choice_text : (bs : List ℕ) (c : Choice) → choice_of_text bs ≡ So
 only_choice_text bs c e = by (first_slash bs) refl e
   where
     by : (o : Option ℕ) → first_slash bs ≡ o → choice_around bs o ≡ Some c → bs ≡ choice_text c
-    by None h e = absurd (none_some e)
+    by None h e = absurd (none-some _ e)
     by (Some at) h e =
         let p = from_only (read_decimal (take at bs)) (read_decimal (drop (at + 1) bs)) c e in
         let region = only_decimal (take at bs) c.region p.0 in

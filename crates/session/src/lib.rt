@@ -55,6 +55,13 @@ impl From<Refused> for u8 {
     }
 }
 
+// The answer with its refusal as the number that is printed.
+fn numbered<T: Copy>(answer: Result<T, Refused>) -> Result<T, u8>
+    ensures { result ≡ refused_numbered answer }
+{
+    Ok(answer?)
+}
+
 // Makes the call that a line asks for.
 fn call<K: Kind, B: WriteBank<Value = K>>(
     line: Line<'_>,
@@ -99,7 +106,7 @@ pub fn reply<K: Kind, B: WriteBank<Value = K>>(
     match Line::parse(line) {
         Ok(line) => {
             let head = line.head();
-            let answer = call(line, workers, bank).map_err(u8::from);
+            let answer = numbered(call(line, workers, bank));
             answer_line(heap, number, Some(head), answer)
         }
         Err(refusal) => answer_line::<K>(heap, number, None, Err(u8::from(refusal))),

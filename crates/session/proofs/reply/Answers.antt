@@ -10,8 +10,8 @@ returns-in-Ok g c =
     let bytes = c.args.line.now in
     let parsed = sym c.parse.ensures.value ∙ ap asked_answer c.in-Ok.is in
     let e = line_asks g.K.Kind.of_text c.args.workers.now (g.B.ReadBank.cells c.args.bank.now) bytes _ parsed in
-    let w = c.call-answer.ensures in
-    let text = ap (λ h. answer_text g.K.Kind.text_of c.args.number h c.call-answer.result) (sym (c.head-head.ensures.whole bytes parsed)) ∙ ap (answer_text g.K.Kind.text_of c.args.number (head_line bytes)) (w.answer ∙ ap (λ z. z.answer) e) in
+    let w = c.call.ensures in
+    let text = ap (λ h. answer_text g.K.Kind.text_of c.args.number h c.numbered-answer.result) (sym (c.head-head.ensures.whole bytes parsed)) ∙ ap (answer_text g.K.Kind.text_of c.args.number (head_line bytes)) (c.numbered-answer.ensures ∙ w.answer ∙ ap (λ z. z.answer) e) in
     record {
       text = subst (λ t. IfOk c.answer_line.result (λ s. string_bytes s ≡ t)) text c.answer_line.ensures;
       workers = w.workers ∙ ap (λ z. z.states) e;
@@ -24,7 +24,7 @@ returns-in-Err g c =
     let bytes = c.args.line.now in
     let parsed = sym c.parse.ensures.value ∙ ap asked_answer c.in-Err.is in
     let e = line_refused g.K.Kind.of_text c.args.workers.now (g.B.ReadBank.cells c.args.bank.now) bytes _ parsed in
-    let text = ap (λ h. answer_text g.K.Kind.text_of c.args.number h (Err c.number.result)) (sym (no_head bytes _ parsed)) ∙ ap (answer_text g.K.Kind.text_of c.args.number (head_line bytes)) (ap Err c.number.ensures.value ∙ ap (λ z. z.answer) e) in
+    let text = ap (λ h. answer_text g.K.Kind.text_of c.args.number h (Err c.from.result)) (sym (no_head bytes _ parsed)) ∙ ap (answer_text g.K.Kind.text_of c.args.number (head_line bytes)) (ap Err c.from.ensures.value ∙ ap (λ z. z.answer) e) in
     record {
       text = subst (λ t. IfOk c.answer_line-in-Err.result (λ s. string_bytes s ≡ t)) text c.answer_line-in-Err.ensures;
       workers = ap (λ z. z.states) e;
