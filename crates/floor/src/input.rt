@@ -1,13 +1,15 @@
 // The lines of the input, one after another. Of a long line only so many bytes are kept that it is seen to be too long.
+ghost use Rattle.std.specs.Prelude.{◌≤◌, length};
+
 use script::line::MAX_LINE;
 use std::alloc::Global;
 use std::io;
-use std::io::{BufRead, BufReader, Read, Stdin};
+use std::io::{BufRead, BufReader, Stdin};
 
 // The most lines that are read.
 pub(crate) const MAX_LINES: usize = 10_000;
 
-// The most bytes that are kept of a line: a line that can be answered, and its line feed.
+// The most bytes that are kept of a line: with so many it is seen to be too long.
 const MAX_KEPT: usize = MAX_LINE + 1;
 
 #[derive(Drop)]
@@ -15,6 +17,16 @@ pub(crate) struct Lines {
     input: BufReader<Stdin>,
     line: Vec<u8>,
     number: usize,
+}
+
+// How many bytes stand before the first line feed, or in all.
+fn before_feed(part: &[u8]) -> usize
+    ensures { result ≤ length part.now }
+{
+    match part.iter().position(|byte| *byte == b'\n') {
+        Some(at) => at,
+        None => part.len(),
+    }
 }
 
 impl Lines {
@@ -38,27 +50,37 @@ impl Lines {
 
     // Reads the next line, if one is left to be read.
     pub(crate) fn advance(&mut self) -> io::Result<bool> {
-        if self.number >= MAX_LINES {
+        let number = self.number;
+        if number >= MAX_LINES {
             return Ok(false);
         }
         self.line.clear();
         if !self.read()? {
             return Ok(false);
         }
-        self.number += 1;
+        self.number = number + 1;
         Ok(true)
     }
 
     // Reads up to the line feed or the end of the input; false where there is nothing before it.
+    // Tried with `take` and `read_until`: the prover does not follow the loan of the input through
+    // `take`. Reading has no end that can be proved, so the turns are counted.
     fn read(&mut self) -> io::Result<bool> {
-        let count = (&mut self.input)
-            .take(MAX_KEPT as u64)
-            .read_until(b'\n', &mut self.line)?;
-        if self.line.as_slice().last() == Some(&b'\n') {
-            self.line.pop();
-        } else if count == MAX_KEPT {
-            self.input.skip_until(b'\n')?;
+        for turn in 0..u64::MAX {
+            let part = self.input.fill_buf()?;
+            if part.is_empty() {
+                return Ok(turn > 0);
+            }
+            let end = before_feed(part);
+            let fed = end < part.len();
+            let room = MAX_KEPT.saturating_sub(self.line.len());
+            self.line.extend_from_slice(&part[..end.min(room)])?;
+            if fed {
+                self.input.consume(end + 1);
+                return Ok(true);
+            }
+            self.input.consume(end);
         }
-        Ok(count > 0)
+        Ok(true)
     }
 }
