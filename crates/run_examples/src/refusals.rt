@@ -3,84 +3,39 @@ use batches::batch::Batch;
 use blocks::block_bank::BlockBank;
 use calls::call::Call;
 use calls::hint::Hint;
+use calls::refusal::CallRefusal;
 use engine::instance::{make, open};
 use engine::worker::Worker;
-use protocol::state::{Phase, State};
 use registers::bank::WriteBank;
 use registers::record::Fields;
 use registers::tag::Tag;
 use std::process::Abort;
 
-fn same_fields(a: &Fields<Batch>, b: &Fields<Batch>) -> bool {
-    a.round == b.round && a.accepted == b.accepted && a.tag == b.tag && a.value == b.value
-}
-
-fn same_phase(a: &Phase<Batch>, b: &Phase<Batch>) -> bool {
-    match (a, b) {
-        (Phase::Idle, Phase::Idle) => true,
-        (Phase::First { next, kept }, Phase::First { next: n, kept: k }) => {
-            next == n && same_fields(kept, k)
-        }
-        (Phase::Ready { kept }, Phase::Ready { kept: k }) => same_fields(kept, k),
-        (
-            Phase::Second { next, candidate },
-            Phase::Second {
-                next: n,
-                candidate: c,
-            },
-        ) => { next == n && candidate == c }
-        (Phase::Sure { candidate }, Phase::Sure { candidate: c }) => candidate == c,
-        (Phase::Decided { value }, Phase::Decided { value: v }) => value == v,
-        _ => false,
-    }
-}
-
-fn same_state(a: &State<Batch>, b: &State<Batch>) -> bool {
-    let place = a.number == b.number && a.total == b.total && a.crashed == b.crashed;
-    let rounds = a.seen == b.seen && a.watch == b.watch && same_fields(&a.own, &b.own);
-    place && rounds && a.proposal == b.proposal && same_phase(&a.phase, &b.phase)
-}
-
-fn same_row(a: &[Worker<Batch>], b: &[Worker<Batch>]) -> bool {
-    if a.len() != b.len() {
-        return false;
-    }
-    for (x, y) in a.iter().zip(b) {
-        if !same_state(&x.state(), &y.state()) {
-            return false;
-        }
-    }
-    true
-}
-
-// The number with which a call is refused, or 0; no call stands for an open.
-fn refusal(workers: &mut [Worker<Batch>], bytes: &mut [u8], call: Option<Call<Batch>>) -> u8 {
+// What answers a call; no call stands for an open.
+fn answer(
+    workers: &mut [Worker<Batch>],
+    bytes: &mut [u8],
+    call: Option<Call<Batch>>,
+) -> Result<(), CallRefusal> {
     let mut bank = BlockBank::<Batch>::new(bytes);
-    let answer = match call {
+    match call {
         None => open(workers, &mut bank),
-        Some(call) => match make(workers, &mut bank, call) {
-            Ok(_) => Ok(()),
-            Err(refusal) => Err(refusal),
-        },
-    };
-    match answer {
-        Ok(()) => 0,
-        Err(refusal) => refusal.number(),
+        Some(call) => make(workers, &mut bank, call).map(|_| ()),
     }
 }
 
-// The same on the first workers of a row and the first registers of a box.
-fn refusal_on(
+// The same on the first workers of a row and the first registers of a box, if there are so many.
+fn answer_on(
     row: &mut [Worker<Batch>],
     workers: usize,
     bytes: &mut [u8],
     registers: usize,
     call: Option<Call<Batch>>,
-) -> u8 {
+) -> Option<Result<(), CallRefusal>> {
     if workers > row.len() || registers > bytes.len() / 20 {
-        return 0;
+        return None;
     }
-    refusal(&mut row[..workers], &mut bytes[..20 * registers], call)
+    Some(answer(&mut row[..workers], &mut bytes[..20 * registers], call))
 }
 
 fn go(worker: usize) -> Option<Call<Batch>> {
@@ -117,12 +72,10 @@ fn refused(
 ) {
     let mut after = *row;
     let mut bytes = *image;
-    let answer = refusal_on(&mut after, workers, &mut bytes, registers, call);
-    assert_eq!(rt; answer, number, "{why}");
-    assert!(rt;
-        same_row(&after, row),
-        "the workers are as they were: {why}"
-    );
+    let answer = answer_on(&mut after, workers, &mut bytes, registers, call);
+    let refusal = answer.and_then(|answer| answer.err());
+    assert_eq!(rt; refusal.map(u8::from), Some(number), "{why}");
+    assert!(rt; after == *row, "the workers are as they were: {why}");
     assert!(rt; bytes == *image, "the bytes are as they were: {why}");
 }
 
@@ -134,7 +87,7 @@ fn accepted(
     calls: &[Option<Call<Batch>>],
 ) {
     for call in calls {
-        assert_eq!(rt; refusal_on(row, 2, bytes, 2, *call), 0);
+        assert_eq!(rt; answer_on(row, 2, bytes, 2, *call), Some(Ok(())));
     }
 }
 
