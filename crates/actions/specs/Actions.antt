@@ -39,7 +39,7 @@ module _ {V : Type 0} where
 
   -- the worker after it wrote f into its register; it has seen what it wrote
   abbrev pub after_write : State V → Fields V → Phase V → State V
-  after_write s f next = record { number = s.number; total = s.total; crashed = s.crashed; proposal = s.proposal; seen = max s.seen f.round; own = f; watch = s.watch; phase = next }
+  after_write s f next = record s { seen = max s.seen f.round; own = f; phase = next }
 
   abbrev pub on_write : Result (Unit {0}) ℕ → After V → After V → After V
   on_write (Ok u) after before = after
@@ -54,7 +54,7 @@ module _ {V : Type 0} where
 
   -- a new round, with what was accepted before
   abbrev pub begun_fields : ℕ → Fields V → Fields V
-  begun_fields r own = record { round = r; accepted = own.accepted; tag = own.tag; value = own.value }
+  begun_fields r own = record own { round = r }
 
   -- a value under the worker's round
   abbrev pub value_fields : ℕ → Tag → V → Fields V

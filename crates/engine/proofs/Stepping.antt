@@ -24,7 +24,6 @@ use Rattle.calls.specs.CallRefusals.{call_refusal_number}
 use Rattle.protocol.specs.declared.state.Phase.{Phase}
 use Rattle.protocol.specs.declared.state.Phase.TheVariants.{Idle, First, Ready, Second, Sure, Decided}
 use Rattle.protocol.specs.declared.state.State.{State}
-use Rattle.protocol.specs.States.{with_phase}
 use Rattle.protocol.specs.Rounds.{round_of_worker}
 use Rattle.protocol.specs.Turns.{Turn, turn, read_effect, decided_value, raised, adopting, on_read, candidate_of, greater, moved, onward, watch_turn, first_turn, second_turn}
 use Rattle.protocol.proofs.RoundLaws.{begun_round}
@@ -54,7 +53,7 @@ module _ {V : Type 0} where
 
   -- a worker that has not decided, and what a read leaves of it besides its phase
   module _ (s r : State V) (h : is_sound r ≡ true) (open' : (v : V) → s.phase ≡ Decided v → ⊥) (seen : s.seen ≤ r.seen) (round : s.own.round ≤ r.own.round) where
-    to : (x : Phase V) → phase_sound r.total r.own.round x ≡ true → Went s (with_phase r x)
+    to : (x : Phase V) → phase_sound r.total r.own.round x ≡ true → Went s (record r { phase = x })
     to x e = record {
       sound = grind (arith, nat_tests);
       later = record { seen = seen; round = round; decision = λ v q. absurd (open' v q) };

@@ -9,7 +9,6 @@ use Rattle.calls.specs.CallRefusals.{call_refusal_number}
 use Rattle.protocol.specs.declared.state.Phase.{Phase}
 use Rattle.protocol.specs.declared.state.Phase.TheVariants.{Idle, First, Ready, Second, Sure, Decided}
 use Rattle.protocol.specs.declared.state.State.{State}
-use Rattle.protocol.specs.States.{with_proposal}
 use Rattle.engine.specs.Steps.{Whole, is_row, sizes_fit, is_at, unchanged}
 
 -- what a proposal leaves of its worker
@@ -50,7 +49,7 @@ module _ {V : Type 0} where
   unproposed e s = record { answer = Err (call_refusal_number e); state = s }
 
   abbrev pub first_proposal : Option V → State V → V → Proposal V
-  first_proposal None s v = record { answer = Ok tt; state = with_proposal s (Some v) }
+  first_proposal None s v = record { answer = Ok tt; state = record s { proposal = Some v } }
   first_proposal (Some p) s v = unproposed Proposed s
 
   -- the proposal of the worker at place i of n

@@ -145,9 +145,13 @@ pub fn make<V: Copy, B: WriteBank<Value = V>>(
 {
     match call {
         Call::Propose { worker, value } => {
-            propose(workers, worker, value).map(|()| Answer::Proposed(value))
+            propose(workers, worker, value)?;
+            Ok(Answer::Proposed(value))
         }
-        Call::Step { worker, hint } => step(workers, bank, worker, hint).map(Answer::Stepped),
+        Call::Step { worker, hint } => {
+            let effect = step(workers, bank, worker, hint)?;
+            Ok(Answer::Stepped(effect))
+        }
     }
 }
 

@@ -10,7 +10,6 @@ use Rattle.calls.specs.declared.outcome.Effect.{Effect}
 use Rattle.protocol.specs.declared.state.Phase.{Phase}
 use Rattle.protocol.specs.declared.state.Phase.TheVariants.{Idle, First, Ready, Second, Sure, Decided}
 use Rattle.protocol.specs.declared.state.State.{State}
-use Rattle.protocol.specs.States.{with_seen, with_watch, with_phase}
 
 -- the register after this one, the first after the last
 abbrev pub around : ℕ → ℕ → ℕ
@@ -38,11 +37,11 @@ module _ {V : Type 0} where
   decided_value Dec v = v
 
   abbrev pub raised : State V → Fields V → State V
-  raised s f = with_seen s (max s.seen f.round)
+  raised s f = record s { seen = max s.seen f.round }
 
   abbrev pub adopting : Option V → State V → State V
   adopting None s = s
-  adopting (Some v) s = with_phase s (Decided v)
+  adopting (Some v) s = record s { phase = Decided v }
 
   -- every read raises `seen`, and a decided record is adopted
   abbrev pub noticed : State V → Fields V → State V
@@ -68,12 +67,12 @@ module _ {V : Type 0} where
   abbrev pub end_turn : State V → ℕ → Fields V → Phase V → V → Turn V
   end_turn s k f next candidate =
       cond (nat_lt s.own.round s.seen)
-      (turn (with_phase s Idle) (effect_of Failed k s.seen f.value))
-      (turn (with_phase s next) (effect_of ReadyNow k s.own.round (Some candidate)))
+      (turn (record s { phase = Idle }) (effect_of Failed k s.seen f.value))
+      (turn (record s { phase = next }) (effect_of ReadyNow k s.own.round (Some candidate)))
 
   -- an idle worker that waits has read the register at its watch place, which moves on
   abbrev pub moved : State V → State V
-  moved s = with_watch s (around s.watch s.total)
+  moved s = record s { watch = around s.watch s.total }
 
   abbrev pub watch_turn : State V → Fields V → Turn V
   watch_turn s f = on_read (adoption s.watch f) (noticed (moved s) f) (turn (noticed (moved s) f) (read_effect s.watch f))
@@ -82,7 +81,7 @@ module _ {V : Type 0} where
   abbrev pub onward : State V → ℕ → Fields V → (ℕ → Phase V) → Phase V → V → Turn V
   onward s k f collecting collected candidate =
       cond (nat_lt k s.total)
-      (turn (with_phase s (collecting (k + 1))) (read_effect k f))
+      (turn (record s { phase = collecting (k + 1) }) (read_effect k f))
       (end_turn s k f collected candidate)
 
   -- the same, where the phase that goes on is what a closure answers, which is asked only where a register follows

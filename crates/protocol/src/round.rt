@@ -9,7 +9,8 @@ pub const MAX_WORKERS: usize = 8;
 
 // The least number above `seen` of the form i + k * n.
 fn round_above(seen: u64, i: u64, n: u64) -> u64
-    requires { (1 ≤ i) × ((i ≤ n) × ((n ≤ 8) × (seen < 2 ^ 32))) }
+    requires placed { (1 ≤ i) × (i ≤ n) }
+    requires small { (n ≤ 8) × (seen < 2 ^ 32) }
     ensures value { result ≡ next_round seen i n }
     ensures least { LeastRound seen i n result }
 {
