@@ -46,9 +46,7 @@ fn a_window_on_a_permutation_on_a_window_of_records(rt: HostRuntime) {
 
 #[test]
 fn the_same_stack_on_bytes_with_choices(rt: HostRuntime) -> Result<(), Fail> {
-    let Some(choice) = Choice::new(7, 2) else {
-        return Err(Fail::new("unlawful"));
-    };
+    let choice = Choice::new(7, 2).ok_or(Fail::new("unlawful"))?;
     let mut bytes = [0x4Eu8; 100];
     let order = Permutation::new(&[3, 1, 2]);
     let inner = Window::new(BlockBank::<Choice>::new(&mut bytes), 3, 3);

@@ -22,11 +22,13 @@ module _ {V : Type 0} (of_image : List ℕ → Option V) (bs : List ℕ) where
   blocks_at k h = get_or-map-range_with_len (λ k. decoded of_image (block_at bs k)) 0 (block_count (length bs)) k k None h (omega arith)
 
 module _ {V : Type 0} (of_image : List ℕ → Option V) (bs : List ℕ) where
-  -- a read of register j decodes the part of the bytes that the code takes
-  pub blocks_read : (j n : ℕ) → 1 ≤ j → j ≤ length (block_cells of_image bs) → n ≡ block_len → cell_answer (decoded of_image (take n (drop (block_len * (j - 1)) bs))) ≡ read_answer (block_cells of_image bs) j
-  blocks_read j n p q e =
-      let within : j - 1 < block_count (length bs) = omega (arith, p, q, blocks_length of_image bs) in
-      ap (λ m. cell_answer (decoded of_image (take m (drop (block_len * (j - 1)) bs)))) e ∙ sym (reads (block_cells of_image bs) j p q ∙ ap cell_answer (blocks_at of_image bs (j - 1) within))
+  -- a read of register j, which has the index i, decodes the part of the bytes that the code takes
+  pub blocks_read : (i j n : ℕ) → i < length (block_cells of_image bs) → i + 1 ≡ j → n ≡ block_len → cell_answer (decoded of_image (take n (drop (block_len * i) bs))) ≡ read_answer (block_cells of_image bs) j
+  blocks_read i j n p q e =
+      let within : i < block_count (length bs) = omega (arith, p, blocks_length of_image bs) in
+      let back : j - 1 ≡ i = omega arith in
+      ap (λ m. cell_answer (decoded of_image (take m (drop (block_len * i) bs)))) e
+      ∙ sym (reads (block_cells of_image bs) j (omega arith) (omega arith) ∙ ap (λ k. cell_answer (get_or (block_cells of_image bs) k None)) back ∙ ap cell_answer (blocks_at of_image bs i within))
 
   -- the cells of other bytes, as many, that differ in one block at most
   blocks_set : (new : List ℕ) (i : ℕ) (x : Option (Record V)) → i < block_count (length bs) → length new ≡ length bs → ((k : ℕ) → (k ≡ i → ⊥) → block_at new k ≡ block_at bs k) → decoded of_image (block_at new i) ≡ x → block_cells of_image new ≡ set (block_cells of_image bs) i x
@@ -84,30 +86,44 @@ module _ (bs ys : List ℕ) (i k : ℕ) (full : k ≡ block_len) (sized : length
   put_is : new ≡ take (block_len * i) bs ++ (ys ++ drop (block_len * i + block_len) bs)
   put_is = ap (λ l. take (block_len * i) bs ++ (ys ++ l)) (drop-drop k (block_len * i) bs ∙ ap (λ n. drop (block_len * i + n) bs) full)
 
--- an accepted write of register j
-module _ {V : Type 0} (image_of : V → List ℕ) (of_image : List ℕ → Option V) (bs ys : List ℕ) (j k : ℕ) (f : Fields V) (r : Record V) (e : Some r ≡ made f) (full : k ≡ block_len) (low : 1 ≤ j) (high : j ≤ block_count (length bs)) (is : ys ≡ encoded image_of r) (sized : length ys ≡ block_len) (back : decoded of_image ys ≡ Some r) where
+-- an accepted write of register j, which has the index i
+module _ {V : Type 0} (image_of : V → List ℕ) (of_image : List ℕ → Option V) (bs ys : List ℕ) (i j k : ℕ) (f : Fields V) (r : Record V) (e : Some r ≡ made f) (full : k ≡ block_len) (within : i < block_count (length bs)) (next : i + 1 ≡ j) (is : ys ≡ encoded image_of r) (sized : length ys ≡ block_len) (back : decoded of_image ys ≡ Some r) where
   abbrev new_bytes : List ℕ
-  new_bytes = put_mid (block_len * (j - 1)) k bs ys
+  new_bytes = put_mid (block_len * i) k bs ys
 
-  room : block_len * (j - 1) + block_len ≤ length bs
-  room = omega (arith, low, high)
+  room : block_len * i + block_len ≤ length bs
+  room = omega (arith, within)
+
+  low : 1 ≤ j
+  low = omega arith
+
+  high : j ≤ block_count (length bs)
+  high = omega arith
 
   inside : j ≤ length (block_cells of_image bs)
   inside = omega (arith, high, blocks_length of_image bs)
+
+  index : j - 1 ≡ i
+  index = omega arith
 
   pub stored_answer : Ok tt ≡ write_answer (block_cells of_image bs) j f
   stored_answer = sym (writes_answer (block_cells of_image bs) j low inside f ∙ ap made_answer (sym e))
 
   pub stored_bytes : new_bytes ≡ write_bytes image_of bs j f
-  stored_bytes = put_is bs ys (j - 1) k full sized room ∙ ap (λ l. take (block_len * (j - 1)) bs ++ (l ++ drop (block_len * (j - 1) + block_len) bs)) is ∙ sym (cond-true _ _ _ (stands_true (block_count (length bs)) j low high) ∙ ap (made_bytes image_of bs j) (sym e))
+  stored_bytes =
+      put_is bs ys i k full sized room
+      ∙ ap (λ l. take (block_len * i) bs ++ (l ++ drop (block_len * i + block_len) bs)) is
+      ∙ ap (λ n. take (block_len * n) bs ++ (encoded image_of r ++ drop (block_len * n + block_len) bs)) (sym index)
+      ∙ sym (cond-true _ _ _ (stands_true (block_count (length bs)) j low high) ∙ ap (made_bytes image_of bs j) (sym e))
 
   pub stored_after : block_cells of_image new_bytes ≡ write_cells (block_cells of_image bs) j f
   stored_after =
-      let within : j - 1 < block_count (length bs) = omega (arith, low, high) in
-      blocks_set of_image bs new_bytes (j - 1) (Some r) within (put_length bs ys (j - 1) k full sized room) (put_other bs ys (j - 1) k full sized room) (ap (decoded of_image) (put_here bs ys (j - 1) k full sized room) ∙ back) ∙ sym (writes_cells (block_cells of_image bs) j low inside f ∙ ap (made_cells (block_cells of_image bs) j) (sym e))
+      blocks_set of_image bs new_bytes i (Some r) within (put_length bs ys i k full sized room) (put_other bs ys i k full sized room) (ap (decoded of_image) (put_here bs ys i k full sized room) ∙ back)
+      ∙ ap (λ n. set (block_cells of_image bs) n (Some r)) (sym index)
+      ∙ sym (writes_cells (block_cells of_image bs) j low inside f ∙ ap (made_cells (block_cells of_image bs) j) (sym e))
 
   pub stored_size : length (block_cells of_image new_bytes) ≡ length (block_cells of_image bs)
   stored_size = ap length stored_after ∙ write_length (block_cells of_image bs) j f
 
   pub stored_rest : rest_bytes new_bytes ≡ rest_bytes bs
-  stored_rest = ap (λ n. drop (block_len * block_count n) new_bytes) (put_length bs ys (j - 1) k full sized room) ∙ put_past bs ys (j - 1) k full sized room (block_len * block_count (length bs)) (omega (arith, low, high))
+  stored_rest = ap (λ n. drop (block_len * block_count n) new_bytes) (put_length bs ys i k full sized room) ∙ put_past bs ys i k full sized room (block_len * block_count (length bs)) (omega (arith, within))

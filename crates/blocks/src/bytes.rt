@@ -6,7 +6,7 @@ ghost use Rattle.blocks.specs.BlockCells.{block_count, block_cells, write_bytes,
 
 use super::block::{BLOCK_LEN, decode, encode};
 use kinds::kind::Kind;
-use registers::bank::MAX_REGISTERS;
+use registers::bank::{MAX_REGISTERS, index_of};
 use registers::record::{Fields, Record};
 use registers::refusal::Refusal;
 
@@ -20,11 +20,7 @@ pub(crate) fn count<K: Kind>(bytes: &[u8]) -> usize
 pub(crate) fn fetch<K: Kind>(bytes: &[u8], register: usize) -> Result<Record<K>, Refusal>
     ensures { numbered result ≡ read_answer (block_cells K.Kind.of_image bytes.now) register }
 {
-    let size = count::<K>(bytes);
-    if register < 1 || register > size {
-        return Err(Refusal::NoRegister);
-    }
-    let at = BLOCK_LEN * (register - 1);
+    let at = BLOCK_LEN * index_of(register, count::<K>(bytes))?;
     decode(&bytes[at..at + BLOCK_LEN]).ok_or(Refusal::Unreadable)
 }
 
@@ -39,12 +35,8 @@ pub(crate) fn store<K: Kind>(
     ensures size { length (block_cells K.Kind.of_image bytes.new) ≡ length (block_cells K.Kind.of_image bytes.old) }
     ensures rest { rest_bytes bytes.new ≡ rest_bytes bytes.old }
 {
-    let size = count::<K>(bytes);
-    if register < 1 || register > size {
-        return Err(Refusal::NoRegister);
-    }
+    let at = BLOCK_LEN * index_of(register, count::<K>(bytes))?;
     let item = Record::new(*fields).ok_or(Refusal::Unlawful)?;
-    let at = BLOCK_LEN * (register - 1);
     bytes[at..at + BLOCK_LEN].copy_from_slice(&encode(&item));
     Ok(())
 }

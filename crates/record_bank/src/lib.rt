@@ -6,7 +6,7 @@ ghost use Rattle.registers.specs.Refusals.{numbered};
 ghost use Rattle.registers.specs.Cells.{read_answer, write_answer, write_cells, max_registers};
 ghost use Rattle.record_bank.specs.RecordCells.{record_cells, write_records, RecordRest, record_rest};
 
-use registers::bank::{MAX_REGISTERS, ReadBank, WriteBank};
+use registers::bank::{MAX_REGISTERS, ReadBank, WriteBank, index_of};
 use registers::record::{Fields, Record};
 use registers::refusal::Refusal;
 
@@ -35,11 +35,8 @@ fn count<V: Copy>(records: &[Record<V>]) -> usize
 fn fetch<V: Copy>(records: &[Record<V>], register: usize) -> Result<Record<V>, Refusal>
     ensures { numbered result ≡ read_answer (record_cells records.now) register }
 {
-    let size = count(records);
-    if register < 1 || register > size {
-        return Err(Refusal::NoRegister);
-    }
-    Ok(records[register - 1])
+    let at = index_of(register, count(records))?;
+    Ok(records[at])
 }
 
 fn store<V: Copy>(
@@ -53,11 +50,8 @@ fn store<V: Copy>(
     ensures size { length (record_cells records.new) ≡ length (record_cells records.old) }
     ensures rest { drop max_registers records.new ≡ drop max_registers records.old }
 {
-    let size = count(records);
-    if register < 1 || register > size {
-        return Err(Refusal::NoRegister);
-    }
-    records[register - 1] = Record::new(*fields).ok_or(Refusal::Unlawful)?;
+    let at = index_of(register, count(records))?;
+    records[at] = Record::new(*fields).ok_or(Refusal::Unlawful)?;
     Ok(())
 }
 

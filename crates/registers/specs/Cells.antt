@@ -18,6 +18,10 @@ Cell V = Option (Record V)
 abbrev pub stands : ℕ → ℕ → Bool
 stands n j = nat_le 1 j && nat_le j n
 
+-- the index of register j of n, from 0
+abbrev pub index_answer : ℕ → ℕ → Result ℕ ℕ
+index_answer n j = cond (stands n j) (Ok (j - 1)) (Err (refusal_number NoRegister))
+
 module _ {V : Type 0} where
   abbrev pub cell_answer : Cell V → Result (Record V) ℕ
   cell_answer None = Err (refusal_number Unreadable)

@@ -51,9 +51,7 @@ fn accepted_lines_are_answered_so(rt: HostRuntime) -> Result<(), Fail> {
     )?;
     let zero = Answer::Proposed(Batch::new(0));
     prints(&rt, heap, 2, "P,1,0", Ok(zero), "2,P,1,proposed,,,0\n")?;
-    let Some(choice) = Choice::new(95, 65535) else {
-        return Err(Fail::new("no choice"));
-    };
+    let choice = Choice::new(95, 65535).ok_or(Fail::new("no choice"))?;
     let choice = Answer::Proposed(choice);
     prints(
         &rt,

@@ -84,10 +84,8 @@ pub fn read_opening(line: &[u8]) -> Result<(Head, Opening), (Option<Head>, LineR
 {
     let line = Line::parse(line).map_err(|refusal| (None, refusal))?;
     let head = line.head();
-    match line.opening() {
-        Ok(opening) => Ok((head, opening)),
-        Err(refusal) => Err((Some(head), refusal)),
-    }
+    let opening = line.opening().map_err(|refusal| (Some(head), refusal))?;
+    Ok((head, opening))
 }
 
 // The answer to a line on an open instance, as text.

@@ -1,27 +1,36 @@
-use Rattle.std.proofs.Common.{◌≡◌, ◌-◌, ◌<◌, length, Some, arith, rules}
+use Rattle.std.proofs.Common.{◌≡◌, ◌<◌, length, Some, arith, rules}
 use Rattle.registers.specs.Records.{made}
-use Rattle.record_bank.proofs.RecordBanks.{within, record_after, record_size, record_rest}
+use Rattle.record_bank.specs.RecordCells.{record_cells}
+use Rattle.record_bank.proofs.RecordBanks.{within, record_written, record_after, record_size, record_rest}
 use Rattle.record_bank.proofs.store.Goals as goal
 
-pub offset_bounds-records-register : goal.offset_bounds-records-register
-offset_bounds-records-register g c =
-    let h : c.args.register - 1 < length c.args.records.now = within c.args.records.now c.args.register (omega arith) (omega arith) in
+pub offset_bounds-records-at : goal.offset_bounds-records-at
+offset_bounds-records-at g c =
+    let found = c.in_ok-at.ensures.found in
+    let inside : c.in_ok-at.at < length (record_cells c.args.records.now) = omega (arith, found.0) in
+    let h : c.in_ok-at.at < length c.args.records.now = within c.args.records.now c.in_ok-at.at c.args.register inside found.1 in
     search rules
 
-pub bounds-records-register : goal.bounds-records-register
-bounds-records-register g c = within c.args.records.now c.args.register (omega arith) (omega arith)
+pub bounds-records-at : goal.bounds-records-at
+bounds-records-at g c =
+    let found = c.in_ok-at.ensures.found in
+    let inside : c.in_ok-at.at < length (record_cells c.args.records.now) = omega (arith, found.0) in
+    within c.args.records.now c.in_ok-at.at c.args.register inside found.1
 
-pub returns-clause-after : goal.returns-clause-after
-returns-clause-after g c =
-    let made : Some c.in_ok-records.field-0 ≡ made c.args.fields.now = search rules in
-    record_after c.args.records.now c.args.register (omega arith) (omega arith) c.args.fields.now c.in_ok-records.field-0 made
-
-pub returns-clause-size : goal.returns-clause-size
-returns-clause-size g c =
-    let made : Some c.in_ok-records.field-0 ≡ made c.args.fields.now = search rules in
-    record_size c.args.records.now c.args.register (omega arith) (omega arith) c.args.fields.now c.in_ok-records.field-0 made
-
-pub returns-clause-rest : goal.returns-clause-rest
-returns-clause-rest g c =
-    let made : Some c.in_ok-records.field-0 ≡ made c.args.fields.now = search rules in
-    record_rest c.args.records.now c.args.register (omega arith) (omega arith) c.args.fields.now c.in_ok-records.field-0 made
+pub returns : goal.returns
+returns g c =
+    let rs = c.args.records.now in
+    let i = c.in_ok-at.at in
+    let j = c.args.register in
+    let f = c.args.fields.now in
+    let r = c.in_ok-records.field-0 in
+    let found = c.in_ok-at.ensures.found in
+    let inside : c.in_ok-at.at < length (record_cells c.args.records.now) = omega (arith, found.0) in
+    let e : Some c.in_ok-records.field-0 ≡ made c.args.fields.now = search rules in
+    record {
+      answer = search rules;
+      records = record_written rs i j inside found.1 f r e;
+      after = record_after rs i j inside found.1 f r e;
+      size = record_size rs i j inside found.1 f r e;
+      rest = record_rest rs i j inside found.1 f r e;
+    }

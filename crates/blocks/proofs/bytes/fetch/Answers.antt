@@ -1,9 +1,10 @@
-use Rattle.std.proofs.Common.{◌≡◌, ◌+◌, ◌-◌, ◌*◌, Some, None, refl, ap, ◌∙◌, arith}
+use Rattle.std.proofs.Common.{◌≡◌, ◌<◌, length, ◌+◌, ◌-◌, ◌*◌, Some, None, refl, ap, ◌∙◌, arith}
 use Rattle.std.specs.Option.{ok_or}
 use Rattle.registers.specs.Cells.{Cell, cell_answer}
 use Rattle.registers.specs.Refusals.{numbered}
 use Rattle.registers.specs.declared.refusal.Refusal.TheVariants.{Unreadable}
 use Rattle.blocks.specs.Layout.{block_len}
+use Rattle.blocks.specs.BlockCells.{block_cells}
 use Rattle.blocks.proofs.BlockBanks.{blocks_read}
 use Rattle.blocks.proofs.bytes.fetch.Goals as goal
 
@@ -14,8 +15,10 @@ answered (Some r) = refl
 
 pub returns : goal.returns
 returns g c =
-    let at = block_len * (c.args.register - 1) in
+    let i = c.in_ok-at.field-0 in
+    let found = c.in_ok-at.ensures.found in
+    let inside : c.in_ok-at.field-0 < length (block_cells g.K.Kind.of_image c.args.bytes.now) = omega (arith, found.0) in
     ap numbered c.ok_or.ensures.value
     ∙ answered c.decode.result
     ∙ ap cell_answer c.decode.ensures.value
-    ∙ blocks_read g.K.Kind.of_image c.args.bytes.now c.args.register (at + block_len - at) (omega arith) (omega arith) (omega arith)
+    ∙ blocks_read g.K.Kind.of_image c.args.bytes.now i c.args.register (block_len * i + block_len - block_len * i) inside found.1 (omega arith)
