@@ -90,6 +90,7 @@ pub fn act<V: Copy, B: WriteBank<Value = V>>(
     ensures after { left result state.new (B.ReadBank.cells bank.new) ≡ taken hint state.old (B.ReadBank.cells bank.old) proposal }
     ensures rest { B.rest bank.new ≡ B.rest bank.old }
 {
+    // phase and hint are matched together and in place, as the project's rules ask
     match (state.phase, hint) {
         (Phase::Idle, Hint::Go) => begin(state, bank),
         (Phase::Idle, Hint::Wait) => {

@@ -49,8 +49,8 @@ impl Kind for Batch {
     ghost of_text = { batch_of_text };
 
     fn image(self) -> [u8; 8] {
-        let n = self.number.to_be_bytes();
-        [MARK, 0, 0, 0, n[0], n[1], n[2], n[3]]
+        let [a, b, c, d] = self.number.to_be_bytes();
+        [MARK, 0, 0, 0, a, b, c, d]
     }
 
     fn from_image(image: [u8; 8]) -> Option<Batch> {

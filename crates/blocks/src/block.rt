@@ -46,7 +46,7 @@ pub fn encode<K: Kind>(item: &Record<K>) -> [u8; BLOCK_LEN]
     )
 }
 
-// The four bytes from `at` on as a number, highest byte first.
+// The four bytes from `at` on as a number, highest byte first. Copying them into an array first is no plainer.
 fn word(block: &[u8], at: usize) -> u32
     requires { at + 4 ≤ length block.now }
     ensures value { result ≡ word_at block.now at }

@@ -82,7 +82,7 @@ impl Desk {
     }
 }
 
-// Answers the lines that are left, on an open instance.
+// Answers the lines that are left, on an open instance. That reading ends can be shown of a count only.
 fn answer_calls<K: Kind, B: WriteBank<Value = K>>(
     desk: &mut Desk,
     workers: &mut [Worker<K>],
@@ -122,6 +122,7 @@ fn open_and_answer<K: Kind>(desk: &mut Desk, head: Head, workers: usize) -> Resu
 // Answers a line where nothing is open, and all after it if it opens an instance.
 fn answer_before_open(desk: &mut Desk) -> Result<bool, Failure> {
     match read_opening(desk.lines.line()) {
+        // the kind's name picks the type of the values, which no closure or `dyn` could
         Ok((head, opening)) => match opening.kind {
             KindName::Batch => open_and_answer::<Batch>(desk, head, opening.workers),
             KindName::Choice => open_and_answer::<Choice>(desk, head, opening.workers),
@@ -133,7 +134,7 @@ fn answer_before_open(desk: &mut Desk) -> Result<bool, Failure> {
     }
 }
 
-// Answers lines until an instance is opened, and those after it.
+// Answers lines until an instance is opened, and those after it; by a count as above.
 fn answer_script(desk: &mut Desk) -> Result<(), Failure> {
     for _ in 0..MAX_LINES {
         if !desk.advance()? || answer_before_open(desk)? {

@@ -17,7 +17,8 @@ const IMAGE_LEN: u64 = 2560;
 const USAGE: &str =
     "usage: inspect KIND [FIRST COUNT] < IMAGE, where KIND is B for batch numbers or C for choices, and FIRST and COUNT are decimal numbers up to 18446744073709551615";
 
-// Why nothing, or not all, was shown.
+// Why nothing, or not all, was shown. The floor program has its own: what each cannot do differs, and
+// a crate for what is left in common would be longer.
 #[derive(Drop)]
 enum Failure {
     Arguments,
@@ -71,6 +72,7 @@ fn read_image(rt: &HostRuntime) -> io::Result<Vec<u8>> {
 }
 
 fn show(heap: Global, request: Request, image: &[u8]) -> Result<String, AllocError> {
+    // the kind's name picks the type of the values, which no closure or `dyn` could
     match request.kind {
         KindName::Batch => view::<Batch>(heap, image, request.span),
         KindName::Choice => view::<Choice>(heap, image, request.span),

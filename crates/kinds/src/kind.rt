@@ -23,7 +23,8 @@ pub trait Kind: Copy + Display {
         ensures value { result ≡ of_image image }
         ensures only { (v : Self) → result ≡ Some v → image ≡ image_of v };
 
-    // Where there is no memory for it, `out` stays as it was.
+    // Where there is no memory for it, `out` stays as it was. Each kind has its own, by `text::append`:
+    // that the text reads back holds of values that there are, and the trait's body would owe it of all.
     fn append_text(self, out: &mut String) -> Result<(), AllocError>
         ensures bytes { string_bytes out.new ≡ (if is_ok result then string_bytes out.old ++ text_of self else string_bytes out.old) }
         ensures back { of_text (text_of self) ≡ Some self };

@@ -88,8 +88,8 @@ impl Kind for Choice {
     ghost of_text = { choice_of_text };
 
     fn image(self) -> [u8; 8] {
-        let e = self.edition.to_be_bytes();
-        [MARK, self.region, e[0], e[1], 0, 0, 0, 0]
+        let [high, low] = self.edition.to_be_bytes();
+        [MARK, self.region, high, low, 0, 0, 0, 0]
     }
 
     fn from_image(image: [u8; 8]) -> Option<Choice> {

@@ -1,4 +1,4 @@
-// Making workers, and what one worker does in a call.
+// Making workers, and what one worker does in a call. The place in the row is said by two numbers, as the state has it.
 ghost use Rattle.std.specs.Prelude.{◌≡◌, ◌≤◌};
 ghost use Rattle.calls.specs.CallRefusals.{call_numbered};
 ghost use Rattle.actions.specs.Actions.{left};
