@@ -1,4 +1,5 @@
-// What a worker does in one step: it reads one register or writes its own.
+// What a worker does in one step: it reads one register or writes its own. Its state and the bank are lent apart and no
+// struct holds them, since a row has many workers and one bank.
 #![tactic(auto)]
 
 ghost use Rattle.std.specs.Prelude.{◌≡◌};

@@ -1,5 +1,5 @@
-// What a worker makes of a record that it read: every read raises `seen` and adopts a decision. The functions take the
-// register and its fields apart from the state, which they change; a struct of the two would be taken apart at once.
+// What a worker makes of a record that it read: every read raises `seen` and adopts a decision. The register and what it
+// held stay two parameters: a struct of both would be made for each read and taken apart at once.
 ghost use Rattle.std.specs.Prelude.{◌≡◌};
 ghost use Rattle.protocol.specs.Turns.{candidate_of, noticed, adoption, read_effect, greater, Onward, watch_turn, first_turn, second_turn};
 
