@@ -5,7 +5,7 @@ ghost use Rattle.registers.specs.Refusals.{numbered};
 ghost use Rattle.layers.specs.Below.{write_below};
 ghost use Rattle.layers.specs.Windows.{window_size, window_place, window_cells, WindowRest, window_rest};
 
-use registers::bank::{ReadBank, WriteBank};
+use registers::bank::{ReadBank, WriteBank, index_of};
 use registers::record::{Fields, Record};
 use registers::refusal::Refusal;
 
@@ -58,10 +58,8 @@ impl<B> Window<B> {
     fn place(&self, size: usize, register: usize) -> Option<usize>
         ensures { result ≡ window_place size self.now.first self.now.count register }
     {
-        if !(1..=self.extent(size)).contains(&register) {
-            return None;
-        }
-        Some(self.first + (register - 1))
+        let at = index_of(register, self.extent(size)).ok()?;
+        Some(self.first + at)
     }
 }
 

@@ -4,6 +4,7 @@ ghost use Rattle.layers.specs.Permutations.{each_once, kept_list, Permutes};
 ghost use Rattle.layers.specs.Permuting.{named, permuted_size, permuted_place};
 
 use super::{MAX_PERMUTED, Permutation};
+use registers::bank::index_of;
 
 // Whether the list names each of as many registers as it is long exactly once. Tried with
 // `1..=list.len()`: what `all` answers on such a range stayed open.
@@ -39,9 +40,7 @@ impl Permutation {
     pub(crate) fn place(&self, size: usize, register: usize) -> Option<usize>
         ensures { result ≡ permuted_place (named self.now) size register }
     {
-        if !(1..=self.extent(size)).contains(&register) {
-            return None;
-        }
-        Some(self.places[register - 1])
+        let at = index_of(register, self.extent(size)).ok()?;
+        Some(self.places[at])
     }
 }
