@@ -57,9 +57,6 @@ module _ {V : Type 0} (of_image : List ℕ → Option V) (b : List ℕ) (whole :
       ∙ ap (with_tag of_image (word_at b 4) (word_at b 8) (drop 12 b)) known
       ∙ sym (cond-true _ _ _ whole)
 
-  pub decodes_none : None ≡ value_of of_image image t → None ≡ decoded of_image b
-  decodes_none e = decodes None e
-
   module _ (f : Fields V) (first : f.round ≡ word_at b 4) (second : f.accepted ≡ word_at b 8) (tagged : f.tag ≡ t) where
     pub decodes_some : Some f.value ≡ value_of of_image image t → made f ≡ decoded of_image b
     decodes_some e = (λ i. made (record { round = first i; accepted = second i; tag = tagged i; value = f.value })) ∙ decodes (Some f.value) e

@@ -1,16 +1,10 @@
 -- A word and its bytes give each other back.
 use Rattle.std.proofs.Common.{◌≡◌, ℕ, ◌/◌, ◌%◌, ◌^◌, ◌<◌, List, [], ◌∷◌, length, get_or, refl, arith, rules}
 use Rattle.std.proofs.lemmas.List.FromFn.{fill_by_all}
-use Rattle.kinds.specs.Words.{bytes16, word16, bytes32, word32}
+use Rattle.kinds.specs.Words.{word16, bytes32, word32}
 
 pub half_of_bytes : (n : ℕ) → n < 2 ^ 16 → word16 (n / 256 % 256) (n % 256) ≡ n
 half_of_bytes n h = omega arith
-
-pub bytes_of_half : (a b : ℕ) → a < 256 → b < 256 → bytes16 (word16 a b) ≡ a ∷ b ∷ []
-bytes_of_half a b p q =
-    let high : word16 a b / 256 % 256 ≡ a = omega arith in
-    let low : word16 a b % 256 ≡ b = omega arith in
-    cc
 
 pub word_of_bytes : (n : ℕ) → n < 2 ^ 32 → word32 (n / 16777216 % 256) (n / 65536 % 256) (n / 256 % 256) (n % 256) ≡ n
 word_of_bytes n h = search rules

@@ -1,19 +1,13 @@
 -- What a bank answers and holds after a write, at a register that stands and at one that does not.
-use Rattle.std.proofs.Common.{◌≡◌, ℕ, ◌+◌, ◌-◌, ◌<◌, ◌≤◌, true, false, leb, ◌⊎◌, List, length, get_or, Some, None, Err, Option, refl, ap, ◌∙◌, inl, inr, arith, length-set}
-use Rattle.std.proofs.lemmas.Bool.{le-leb, lt-leb, and_from, and_left, and_right, cases_Bool, cond-true, cond-false}
+use Rattle.std.proofs.Common.{◌≡◌, ℕ, ◌-◌, ◌≤◌, true, false, leb, ◌⊎◌, List, length, get_or, Some, None, Option, refl, ap, ◌∙◌, inl, inr, length-set}
+use Rattle.std.proofs.lemmas.Bool.{le-leb, and_from, cases_Bool, cond-true, cond-false}
 use Rattle.registers.specs.declared.record.Fields.{Fields}
 use Rattle.registers.specs.declared.record.Record.{Record}
-use Rattle.registers.specs.declared.refusal.Refusal.TheVariants.{NoRegister}
-use Rattle.registers.specs.Refusals.{refusal_number}
 use Rattle.registers.specs.Records.{made}
 use Rattle.registers.specs.Cells.{Cell, stands, cell_answer, read_answer, made_answer, write_answer, made_cells, write_cells}
 
 pub stands_true : (n j : ℕ) → 1 ≤ j → j ≤ n → stands n j ≡ true
 stands_true n j p q = and_from (leb 1 j) (leb j n) (le-leb 1 j p) (le-leb j n q)
-
-pub stands_false : (n j : ℕ) → (j < 1) ⊎ (n < j) → stands n j ≡ false
-stands_false n j (inl p) = and_left (leb 1 j) (leb j n) (lt-leb 1 j p)
-stands_false n j (inr p) = and_right (leb 1 j) (leb j n) (lt-leb j n p)
 
 module _ {V : Type 0} (cells : List (Cell V)) (j : ℕ) where
   module _ (low : 1 ≤ j) (high : j ≤ length cells) where
@@ -26,16 +20,6 @@ module _ {V : Type 0} (cells : List (Cell V)) (j : ℕ) where
     pub writes_cells : (f : Fields V) → write_cells cells j f ≡ made_cells cells j (made f)
     writes_cells f = cond-true _ _ _ (stands_true (length cells) j low high)
 
-  module _ (out : (j < 1) ⊎ (length cells < j)) where
-    pub reads_none : read_answer cells j ≡ Err (refusal_number NoRegister)
-    reads_none = cond-false _ _ _ (stands_false (length cells) j out)
-
-    pub writes_answer_none : (f : Fields V) → write_answer cells j f ≡ Err (refusal_number NoRegister)
-    writes_answer_none f = cond-false _ _ _ (stands_false (length cells) j out)
-
-    pub writes_cells_none : (f : Fields V) → write_cells cells j f ≡ cells
-    writes_cells_none f = cond-false _ _ _ (stands_false (length cells) j out)
-
   -- a write keeps the size
   made_length : (o : Option (Record V)) → length (made_cells cells j o) ≡ length cells
   made_length None = refl
@@ -47,14 +31,3 @@ module _ {V : Type 0} (cells : List (Cell V)) (j : ℕ) where
       by : ((stands (length cells) j ≡ true) ⊎ (stands (length cells) j ≡ false)) → length (write_cells cells j f) ≡ length cells
       by (inl e) = ap length (cond-true _ (made_cells cells j (made f)) cells e) ∙ made_length (made f)
       by (inr e) = ap length (cond-false _ (made_cells cells j (made f)) cells e)
-
--- what the code tests before a refusal
-pub out_of_range : (n j size : ℕ) → size ≡ n → (j < 1) ⊎ ((1 ≤ j) × (size < j)) → (j < 1) ⊎ (n < j)
-out_of_range n j size e (inl p) = inl p
-out_of_range n j size e (inr p) = inr (omega (arith, e, p.1))
-
--- the next register of a walk from the first
-pub reads_next : {V : Type 0} (cells : List (Cell V)) (i : ℕ) → i < length cells → read_answer cells (i + 1) ≡ cell_answer (get_or cells i None)
-reads_next cells i h =
-    let back : i + 1 - 1 ≡ i = omega arith in
-    reads cells (i + 1) (omega arith) (omega arith) ∙ ap (λ k. cell_answer (get_or cells k None)) back

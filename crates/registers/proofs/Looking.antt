@@ -4,9 +4,7 @@ use Rattle.std.proofs.lemmas.List.{drop_more, drop_all}
 use Rattle.registers.specs.declared.tag.Tag.{Tag}
 use Rattle.registers.specs.declared.tag.Tag.TheVariants.{None as Untagged, Pro, Dec}
 use Rattle.registers.specs.declared.record.Record.{Record}
-use Rattle.registers.specs.declared.refusal.Refusal.TheVariants.{Unreadable}
 use Rattle.registers.specs.Lawful.{Accepts}
-use Rattle.registers.specs.Refusals.{refusal_number}
 use Rattle.registers.specs.Cells.{Cell, cell_answer, read_answer}
 use Rattle.registers.specs.Decision.{by_tag, shown, Undecided, UndecidedBefore, DecidedWith, Looked}
 use Rattle.registers.proofs.Making.{lawful}
@@ -25,10 +23,6 @@ module _ {V : Type 0} where
   answered : (o : Cell V) (r : Record V) → cell_answer o ≡ Ok r → o ≡ Some r
   answered None r e = let z : ◌≡◌ {A = ℕ} 0 1 = cc in let n : ⊥ = omega arith in absurd n
   answered (Some x) r e = cc
-
-  refused : (o : Cell V) (e : ℕ) → cell_answer o ≡ Err e → (o ≡ None) × (e ≡ refusal_number Unreadable)
-  refused None e p = (refl, cc)
-  refused (Some x) e p = let z : ◌≡◌ {A = ℕ} 0 1 = cc in let n : ⊥ = omega arith in absurd n
 
   other_tag : (t : Tag) (v : Option V) (rest : Result (Option V) ℕ) → (t ≡ Dec → ⊥) → by_tag t v rest ≡ rest
   other_tag Untagged v rest n = refl
@@ -50,11 +44,6 @@ module _ {V : Type 0} where
         ∙ ap (λ k. onward (read_answer cells j) (shown (drop k cells))) back
 
     module _ (before : UndecidedBefore cells (j - 1)) where
-      pub looked_refusal : (e : ℕ) → read_answer cells j ≡ Err e → (shown (drop (j - 1) cells) ≡ Err e) × Looked cells (Err e)
-      looked_refusal e a =
-          let o = refused (get_or cells (j - 1) None) e (sym (reads cells j low high) ∙ a) in
-          (next ∙ ap (λ x. onward x (shown (drop j cells))) a, (j - 1, omega arith, before, o.0, o.1))
-
       module _ (r : Record V) (a : read_answer cells j ≡ Ok r) where
         holds : get_or cells (j - 1) None ≡ Some r
         holds = answered (get_or cells (j - 1) None) r (sym (reads cells j low high) ∙ a)

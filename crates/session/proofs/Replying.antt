@@ -1,10 +1,8 @@
 -- What a line asks, and what it does, by what the parser and the caller of the engine found.
-use Rattle.std.proofs.Common.{◌≡◌, ℕ, List, length, None, Ok, Err, Option, Result, sym, ap, ◌∙◌}
+use Rattle.std.proofs.Common.{◌≡◌, ℕ, List, length, None, Ok, Err, Option, sym, ap}
 use Rattle.registers.specs.Cells.{Cell}
-use Rattle.calls.specs.declared.call.Call.{Call}
 use Rattle.engine.specs.declared.worker.Worker.{Worker}
 use Rattle.engine.specs.Rows.{states}
-use Rattle.engine.proofs.Rows.{states_length}
 use Rattle.script.specs.Shapes.{Asked, line_of}
 use Rattle.script.specs.Lines.{call_of, then, head_if, head_line}
 use Rattle.session.specs.Sessions.{reply_whole, asked_whole, line_whole}
@@ -13,9 +11,6 @@ pub no_head : (bytes : List ℕ) (e : ℕ) → line_of bytes ≡ Err e → head_
 no_head bytes e p = ap head_if p
 
 module _ {V : Type 0} (of_text : List ℕ → Option V) (ws : List (Worker V)) (cells : List (Cell V)) where
-  pub asked_as : (a : Asked) (r : Result (Call V) ℕ) → call_of of_text (length ws) a ≡ r → reply_whole r (states ws) cells ≡ asked_whole of_text a (states ws) cells
-  asked_as a r p = ap (λ z. reply_whole z (states ws) cells) (sym (ap (λ n. call_of of_text n a) (states_length ws) ∙ p))
-
   pub line_asks : (bytes : List ℕ) (a : Asked) → line_of bytes ≡ Ok a → asked_whole of_text a (states ws) cells ≡ line_whole of_text bytes (states ws) cells
   line_asks bytes a p = ap (λ l. reply_whole (then l (call_of of_text (length (states ws)))) (states ws) cells) (sym p)
 

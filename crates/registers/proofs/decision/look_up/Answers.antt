@@ -1,19 +1,9 @@
-use Rattle.std.proofs.Common.{◌+◌, ◌-◌, Ok, Err, sym, refl, ap, ◌∙◌, subst, arith}
-use Rattle.std.proofs.lemmas.Result.{err_from_is_err_and}
+use Rattle.std.proofs.Common.{◌-◌, Ok, sym, refl, ap, ◌∙◌, subst, arith}
 use Rattle.registers.specs.Decision.{Looked}
-use Rattle.registers.specs.Refusals.{numbered, refusal_number}
-use Rattle.registers.proofs.Looking.{looked_refusal, looked_decided, looked_on, looked_all}
+use Rattle.registers.specs.Refusals.{numbered}
+use Rattle.registers.proofs.Looking.{looked_decided, looked_on, looked_all}
 use Rattle.registers.proofs.decision.look_up.Goals as goal
 use Rattle.registers.proofs.decision.look_up.Goals.{else-loop-register-test, then-loop-register-test+in_ok-read+in_default+else-register-register-end}
-
-pub returns-in_err-read : goal.returns-in_err-read
-returns-in_err-read g c =
-    let cs = g.B.ReadBank.cells c.args.bank.now in
-    let p = err_from_is_err_and c.from_residual.result c.from_residual.ensures.1 in
-    let n = refusal_number c.in_err-read.field-0.0 in
-    let same = ap numbered (p.1 ∙ ap Err p.2) in
-    let l = looked_refusal cs c.loop-register.register (omega arith) (omega arith) c.loop-register.invariant.1 n (sym c.read.ensures ∙ ap numbered c.in_err-read.was) in
-    record { value = same ∙ sym (c.loop-register.invariant.0 ∙ l.0); first = subst (Looked cs) (sym same) l.1 }
 
 pub returns-in-Dec : goal.returns-in-Dec
 returns-in-Dec g c =
@@ -22,12 +12,6 @@ returns-in-Dec g c =
     let l = looked_decided cs c.loop-register.register (omega arith) (omega arith) c.loop-register.invariant.1 r (sym c.read.ensures ∙ ap numbered c.in_ok-read.was) (sym (ap (λ f. f.tag) c.fields-fields.ensures.value) ∙ c.in-Dec.is) in
     let same = ap (λ f. f.value) c.fields-fields.ensures.value in
     record { value = ap Ok same ∙ sym (c.loop-register.invariant.0 ∙ l.0); first = subst (λ v. Looked cs (Ok v)) (sym same) l.1 }
-
-pub loop-register-preserved : goal.loop-register-preserved
-loop-register-preserved g c =
-    let cs = g.B.ReadBank.cells c.args.bank.now in
-    let l = looked_on cs c.loop-register.register (omega arith) (omega arith) c.loop-register.invariant.1 c.in_ok-read.field-0 (sym c.read.ensures ∙ ap numbered c.in_ok-read.was) (λ e. c.in_default.not-Dec (ap (λ f. f.tag) c.fields-fields.ensures.value ∙ e)) (c.loop-register.register + 1 - 1) (omega arith) in
-    (c.loop-register.invariant.0 ∙ l.0, l.1)
 
 pub returns : goal.returns
 returns g c =
