@@ -92,26 +92,26 @@ pub fn act<V: Copy, B: WriteBank<Value = V>>(
     ensures rest { B.rest bank.new ≡ B.rest bank.old }
 {
     // phase and hint are matched together and in place, as the project's rules ask
-    match (state.phase, hint) {
+    match (&state.phase, hint) {
         (Phase::Idle, Hint::Go) => begin(state, bank),
         (Phase::Idle, Hint::Wait) => {
             let record = bank.read(state.watch)?;
             Ok(watch_turn(state, &record.fields()))
         }
-        (Phase::First { next, kept }, _) => {
+        (&Phase::First { next, kept }, _) => {
             let record = bank.read(next)?;
             Ok(first_turn(state, next, kept, proposal, &record.fields()))
         }
-        (Phase::Ready { kept }, _) => {
+        (&Phase::Ready { kept }, _) => {
             let candidate = candidate(&kept, proposal);
             let next = Phase::Second { next: 1, candidate };
             offer(state, bank, Tag::Pro, candidate, next, Outcome::Put)
         }
-        (Phase::Second { next, candidate }, _) => {
+        (&Phase::Second { next, candidate }, _) => {
             let record = bank.read(next)?;
             Ok(second_turn(state, next, candidate, &record.fields()))
         }
-        (Phase::Sure { candidate }, _) => {
+        (&Phase::Sure { candidate }, _) => {
             let next = Phase::Decided { value: candidate };
             offer(state, bank, Tag::Dec, candidate, next, Outcome::Decided)
         }

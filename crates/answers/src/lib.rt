@@ -2,17 +2,19 @@
 #![tactic(auto)]
 
 ghost use Rattle.std.specs.Prelude.{◌≡◌, IfOk, Some, string_bytes};
-ghost use Rattle.answers.specs.Answers.{start_text, answer_text};
+ghost use Rattle.calls.specs.declared.call.Answer.TheVariants.{Stepped};
+ghost use Rattle.answers.specs.Answers.{start_text, accepted_row, answer_text};
 
 use calls::call::Answer;
+use calls::outcome::Effect;
 use kinds::kind::Kind;
-use kinds::text::TextOf;
+use kinds::text::value_text;
 use script::line::Head;
 use std::alloc::{AllocError, Global};
 use std::fmt;
 
-// The first three fields: the line's number, its letter and its worker.
-#[derive(Clone, Copy)]
+// The first three of seven fields: the line's number, its letter and its worker.
+#[derive(Clone, Copy, PartialEq, Eq, Debug)]
 struct Start {
     number: usize,
     head: Option<Head>,
@@ -41,36 +43,20 @@ impl fmt::Display for Start {
     }
 }
 
-// All seven fields. A refusal stands in the outcome's place, with nothing after it.
-#[derive(Clone, Copy)]
-struct AnswerLine<K> {
-    start: Start,
-    answer: Result<Answer<K>, u8>,
+// The line of an accepted step.
+fn step_line<K: Kind>(heap: Global, start: Start, effect: Effect<K>) -> Result<String, AllocError>
+    ensures { IfOk result (λ s. string_bytes s ≡ accepted_row K.Kind.text_of (start_text start.number start.head) (Stepped effect)) }
+{
+    let value = value_text(heap, effect.value)?;
+    format!(in heap;
+        "{start},{},{},{},{value}\n",
+        effect.outcome, effect.register, effect.round
+    )
 }
 
-impl<K: Kind> fmt::Display for AnswerLine<K> {
-    ghost output = { λ line. Some (answer_text K.Kind.text_of line.start.number line.start.head line.answer) };
-
-    fn fmt<W: fmt::Write>(&self, f: &mut fmt::Formatter<W>) -> fmt::Result {
-        let start = self.start;
-        match self.answer {
-            Ok(Answer::Opened) => write!(f, "{start},opened,,,\n"),
-            Ok(Answer::Proposed(value)) => write!(f, "{start},proposed,,,{value}\n"),
-            Ok(Answer::Stepped(effect)) => write!(
-                f,
-                "{start},{},{},{},{}\n",
-                effect.outcome,
-                effect.register,
-                effect.round,
-                TextOf(effect.value)
-            ),
-            Err(refusal) => write!(f, "{start},r{refusal},,,\n"),
-        }
-    }
-}
-
-// The line of this number: its head, if it has one, and what was answered or the number of the refusal.
-// The refusal is its number here: that is what is printed, and every number is taken.
+// The line of this number: its head, if it has one, and what was answered or the number of the
+// refusal, which stands in the outcome's place with nothing after it. The refusal comes as its number:
+// that is what is printed, and a narrower type would ask more of callers.
 pub fn answer_line<K: Kind>(
     heap: Global,
     number: usize,
@@ -80,6 +66,13 @@ pub fn answer_line<K: Kind>(
     ensures { IfOk result (λ s. string_bytes s ≡ answer_text K.Kind.text_of number head answer) }
 {
     let start = Start { number, head };
-    let line = AnswerLine { start, answer };
-    format!(in heap; "{line}")
+    match answer {
+        Ok(Answer::Opened) => format!(in heap; "{start},opened,,,\n"),
+        Ok(Answer::Proposed(value)) => {
+            let value = value_text(heap, Some(value))?;
+            format!(in heap; "{start},proposed,,,{value}\n")
+        }
+        Ok(Answer::Stepped(effect)) => step_line(heap, start, effect),
+        Err(refusal) => format!(in heap; "{start},r{refusal},,,\n"),
+    }
 }

@@ -1,5 +1,5 @@
 // A batch of payments, by its number.
-ghost use Rattle.std.specs.Prelude.{◌≡◌, Some, refl};
+ghost use Rattle.std.specs.Prelude.{◌≡◌, Some};
 ghost use Rattle.batches.specs.BatchForms.{batch, batch_image, batch_of_image, batch_text, batch_of_text};
 
 use decimals::read_decimal;
@@ -70,6 +70,4 @@ impl Kind for Batch {
         let number = u32::try_from(read_decimal(text)?).ok()?;
         Some(Batch::new(number))
     }
-
-    ghost printed = { λ _. refl };
 }

@@ -24,10 +24,10 @@ impl Hint {
     pub fn from_suspects(suspects: u8, workers: usize, worker: usize) -> Hint
         ensures { result ≡ hint_of_suspects suspects workers worker }
     {
-        match trusted_leader(suspects, workers) {
-            Some(leader) => Hint::from_leader(leader, worker),
-            None => Hint::Wait,
-        }
+        trusted_leader(suspects, workers).map_or(
+            Hint::Wait,
+            |leader| Hint::from_leader(leader, worker),
+        )
     }
 }
 
@@ -37,6 +37,7 @@ pub fn trusted_leader(suspects: u8, workers: usize) -> Option<usize>
     ensures value { result ≡ trusted_leader suspects workers }
     ensures least { Leads suspects workers result }
 {
+    // a cast that loses nothing: there is no `From` of `u32` into `usize`
     let leader = suspects.trailing_ones() as usize + 1;
     (leader <= workers).then_some(leader)
 }

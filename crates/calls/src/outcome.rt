@@ -1,5 +1,5 @@
 // What an accepted step did.
-ghost use Rattle.std.specs.Prelude.{Some};
+ghost use Rattle.std.specs.Prelude.{◌≡◌, Some};
 ghost use Rattle.calls.specs.Outcomes.{outcome_word};
 
 use std::fmt;
@@ -22,12 +22,12 @@ pub enum Outcome {
     Decided,
 }
 
-// The word by which users know the outcome.
-impl fmt::Display for Outcome {
-    ghost output = { λ outcome. Some (outcome_word outcome) };
-
-    fn fmt<W: fmt::Write>(&self, f: &mut fmt::Formatter<W>) -> fmt::Result {
-        f.write_str(match self {
+impl Outcome {
+    // The word by which users know the outcome.
+    pub fn word(self) -> &'static str
+        ensures { result.now ≡ outcome_word self }
+    {
+        match self {
             Outcome::Begun => "begun",
             Outcome::Read => "read",
             Outcome::Failed => "failed",
@@ -35,7 +35,15 @@ impl fmt::Display for Outcome {
             Outcome::Put => "put",
             Outcome::Adopted => "adopted",
             Outcome::Decided => "decided",
-        })
+        }
+    }
+}
+
+impl fmt::Display for Outcome {
+    ghost output = { λ outcome. Some (outcome_word outcome) };
+
+    fn fmt<W: fmt::Write>(&self, f: &mut fmt::Formatter<W>) -> fmt::Result {
+        f.write_str(self.word())
     }
 }
 

@@ -14,7 +14,7 @@ use calls::hint::Hint;
 use calls::outcome::Effect;
 use calls::refusal::CallRefusal;
 use protocol::round::MAX_WORKERS;
-use registers::bank::WriteBank;
+use registers::bank::{WriteBank, index_of};
 use registers::record::Record;
 
 // The fewest workers of a row.
@@ -48,11 +48,7 @@ fn place(worker: usize, total: usize) -> Result<usize, CallRefusal>
     ensures value { call_numbered result ≡ place_answer worker total }
     ensures within { IfOk result (λ k. k < total) }
 {
-    if (1..=total).contains(&worker) {
-        Ok(worker - 1)
-    } else {
-        Err(CallRefusal::NoWorker)
-    }
+    index_of(worker, total).map_err(|_| CallRefusal::NoWorker)
 }
 
 // Puts a worker that has done nothing at every place.

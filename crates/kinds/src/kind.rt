@@ -2,10 +2,8 @@
 ghost use Rattle.std.specs.Prelude.{◌≡◌, ℕ, List, ◌++◌, is_ok, if◌then◌else◌, Some, string_bytes, Option};
 
 use std::alloc::AllocError;
-use std::fmt::Display;
 
-// The text is what `{}` prints.
-pub trait Kind: Copy + Display {
+pub trait Kind: Copy {
     ghost image_of: { Self → List ℕ };
 
     ghost of_image: { List ℕ → Option Self };
@@ -23,8 +21,7 @@ pub trait Kind: Copy + Display {
         ensures value { result ≡ of_image image }
         ensures only { (v : Self) → result ≡ Some v → image ≡ image_of v };
 
-    // Where there is no memory for it, `out` stays as it was. Each kind has its own, by `text::append`:
-    // that the text reads back holds of values that there are, and the trait's body would owe it of all.
+    // Where there is no memory for it, `out` stays as it was.
     fn append_text(self, out: &mut String) -> Result<(), AllocError>
         ensures bytes { string_bytes out.new ≡ (if is_ok result then string_bytes out.old ++ text_of self else string_bytes out.old) }
         ensures back { of_text (text_of self) ≡ Some self };
@@ -33,6 +30,4 @@ pub trait Kind: Copy + Display {
     fn from_text(text: &[u8]) -> Option<Self>
         ensures value { result ≡ of_text text.now }
         ensures only { (v : Self) → result ≡ Some v → text.now ≡ text_of v };
-
-    ghost printed: { (v : Self) → Self.Display.output v ≡ Some (text_of v) };
 }

@@ -1,29 +1,25 @@
 // The text of a value that may be absent, and a text put behind another.
-ghost use Rattle.std.specs.Prelude.{◌≡◌, ℕ, List, ◌++◌, is_ok, if◌then◌else◌, Some, string_bytes};
+ghost use Rattle.std.specs.Prelude.{◌≡◌, ℕ, List, ◌++◌, is_ok, if◌then◌else◌, IfOk, Some, string_bytes};
 ghost use Rattle.kinds.specs.Texts.{value_text};
 
 use super::kind::Kind;
-use std::alloc::AllocError;
-use std::fmt;
+use std::alloc::{AllocError, Global};
+use std::fmt::Display;
 
-// Prints as the value's text, and as nothing where there is no value.
-#[derive(Clone, Copy, PartialEq, Eq, Debug)]
-pub struct TextOf<K>(pub Option<K>);
-
-impl<K: Kind> fmt::Display for TextOf<K> {
-    ghost output = { λ text. Some (value_text K.Kind.text_of text.0) };
-
-    fn fmt<W: fmt::Write>(&self, f: &mut fmt::Formatter<W>) -> fmt::Result {
-        match self.0 {
-            Some(value) => write!(f, "{value}"),
-            None => Ok(()),
-        }
+// Empty where there is no value.
+pub fn value_text<K: Kind>(heap: Global, value: Option<K>) -> Result<String, AllocError>
+    ensures { IfOk result (λ s. string_bytes s ≡ value_text K.Kind.text_of value) }
+{
+    let mut text = String::new(heap);
+    if let Some(value) = value {
+        value.append_text(&mut text)?;
     }
+    Ok(text)
 }
 
 // Puts what `{}` prints behind the text. Where there is no memory for it, `out` stays as it was, so
 // it is printed apart first.
-pub fn append<T: fmt::Display + Copy>(value: T, out: &mut String) -> Result<(), AllocError>
+pub fn append<T: Display + Copy>(value: T, out: &mut String) -> Result<(), AllocError>
     ensures { (bytes : List ℕ) → T.Display.output value ≡ Some bytes → string_bytes out.new ≡ (if is_ok result then string_bytes out.old ++ bytes else string_bytes out.old) }
 {
     let alloc = *out.allocator();

@@ -39,8 +39,7 @@ impl<'o, B: ReadBank> ReadBank for Permuted<'o, B> {
     }
 
     fn read(&self, register: usize) -> Result<Record<B::Value>, Refusal> {
-        let place = self.order.place(self.below.size(), register);
-        let at = place.ok_or(Refusal::NoRegister)?;
+        let at = self.order.place(self.below.size(), register)?;
         self.below.read(at)
     }
 }
@@ -57,8 +56,7 @@ impl<'o, B: WriteBank> WriteBank for Permuted<'o, B> {
         ensures rest { ⟦<Permuted<'o, B> as WriteBank>⟧.rest self.new ≡ ⟦<Permuted<'o, B> as WriteBank>⟧.rest self.old }
         ensures below { B.cells self.new.below ≡ write_below (permuted_place (named self.old.order.now) (length (B.cells self.old.below)) register) (B.cells self.old.below) fields.now }
     {
-        let place = self.order.place(self.below.size(), register);
-        let at = place.ok_or(Refusal::NoRegister)?;
+        let at = self.order.place(self.below.size(), register)?;
         self.below.write(at, fields)
     }
 }

@@ -1,7 +1,9 @@
 // A window: some registers of a bank, one after another, as a bank of their own.
 ghost use Rattle.std.specs.Prelude.{◌≡◌, length};
 ghost use Rattle.registers.specs.Cells.{write_answer, write_cells};
-ghost use Rattle.registers.specs.Refusals.{numbered};
+ghost use Rattle.std.specs.Option.{ok_or};
+ghost use Rattle.registers.specs.Refusals.{numbered, refusal_number};
+ghost use Rattle.registers.specs.declared.refusal.Refusal.TheVariants.{NoRegister};
 ghost use Rattle.layers.specs.Below.{write_below};
 ghost use Rattle.layers.specs.Windows.{window_size, window_place, window_cells, WindowRest, window_rest};
 
@@ -54,12 +56,11 @@ impl<B> Window<B> {
         }
     }
 
-    // The register of `size` of them that a register of the window is.
-    fn place(&self, size: usize, register: usize) -> Option<usize>
-        ensures { result ≡ window_place size self.now.first self.now.count register }
+    // The register of `size` of them that a register of the window is. Refuses (1) where it is none.
+    fn place(&self, size: usize, register: usize) -> Result<usize, Refusal>
+        ensures { numbered result ≡ ok_or (window_place size self.now.first self.now.count register) (refusal_number NoRegister) }
     {
-        let at = index_of(register, self.extent(size)).ok()?;
-        Some(self.first + at)
+        Ok(self.first + index_of(register, self.extent(size))?)
     }
 }
 
@@ -76,8 +77,7 @@ impl<B: ReadBank> ReadBank for Window<B> {
     }
 
     fn read(&self, register: usize) -> Result<Record<B::Value>, Refusal> {
-        let place = self.place(self.below.size(), register);
-        let at = place.ok_or(Refusal::NoRegister)?;
+        let at = self.place(self.below.size(), register)?;
         self.below.read(at)
     }
 }
@@ -94,8 +94,7 @@ impl<B: WriteBank> WriteBank for Window<B> {
         ensures rest { ⟦<Window<B> as WriteBank>⟧.rest self.new ≡ ⟦<Window<B> as WriteBank>⟧.rest self.old }
         ensures below { B.cells self.new.below ≡ write_below (window_place (length (B.cells self.old.below)) self.old.first self.old.count register) (B.cells self.old.below) fields.now }
     {
-        let place = self.place(self.below.size(), register);
-        let at = place.ok_or(Refusal::NoRegister)?;
+        let at = self.place(self.below.size(), register)?;
         self.below.write(at, fields)
     }
 }

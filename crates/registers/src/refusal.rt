@@ -12,7 +12,7 @@ pub enum Refusal {
 }
 
 // The number by which users know the refusal; no two have the same. Contracts compare answers by
-// this number and not by the case: the rules are in numbers, and a case may come to hold more.
+// this number and not by the case, since the rules are in numbers.
 impl From<Refusal> for u8 {
     ghost from_gives = { Numbers refusal_number };
 

@@ -3,7 +3,7 @@ ghost use Rattle.std.specs.Prelude.{◌≡◌, IfOk, string_bytes};
 ghost use Rattle.report.specs.Lines.{report_text};
 ghost use Rattle.report.specs.Views.{viewed_cells};
 
-use super::lines::{DecisionLine, RegisterLine};
+use super::lines::{decision_line, register_line};
 use blocks::image_bank::ImageBank;
 use kinds::kind::Kind;
 use layers::window::Window;
@@ -11,7 +11,6 @@ use registers::bank::ReadBank;
 use registers::decision::look_up;
 use requests::Span;
 use std::alloc::{AllocError, Global};
-use std::fmt::Write;
 
 // The number of registers, a line for each, and the decision that the bank shows.
 pub fn report<K: Kind, B: ReadBank<Value = K>>(heap: Global, bank: &B) -> Result<String, AllocError>
@@ -20,16 +19,11 @@ pub fn report<K: Kind, B: ReadBank<Value = K>>(heap: Global, bank: &B) -> Result
     let size = bank.size();
     let mut out = format!(in heap; "registers,{size}\n")?;
     for register in 1..=size {
-        let line = RegisterLine {
-            number: register,
-            answer: bank.read(register),
-        };
-        write!(out, "{line}")?;
+        let line = register_line(heap, register, bank.read(register))?;
+        out.push_str(line.as_str())?;
     }
-    let line = DecisionLine {
-        answer: look_up(bank),
-    };
-    write!(out, "{line}")?;
+    let last = decision_line(heap, look_up(bank))?;
+    out.push_str(last.as_str())?;
     Ok(out)
 }
 

@@ -17,7 +17,7 @@ pub enum LineRefusal {
 }
 
 // The number by which users know the refusal; no two have the same. Contracts compare answers by
-// this number and not by the case: the rules are in numbers, and a case may come to hold more.
+// this number and not by the case, since the rules are in numbers.
 impl From<LineRefusal> for u8 {
     ghost from_gives = { Numbers line_refusal_number };
 

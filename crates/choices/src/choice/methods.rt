@@ -1,5 +1,5 @@
 // How a choice is made and read, with its image and its text.
-ghost use Rattle.std.specs.Prelude.{◌≡◌, [], ◌∷◌, Some, refl};
+ghost use Rattle.std.specs.Prelude.{◌≡◌, [], ◌∷◌, Some};
 ghost use Rattle.kinds.specs.Words.{bytes16, word16};
 ghost use Rattle.choices.specs.ChoiceForms.{choice_of, choice_image, choice_of_image, choice_text, choice_of_text, choice_from, first_slash};
 
@@ -109,6 +109,4 @@ impl Kind for Choice {
         let at = slash(text)?;
         choose(read_decimal(&text[..at]), read_decimal(&text[at + 1..]))
     }
-
-    ghost printed = { λ _. refl };
 }

@@ -1,4 +1,5 @@
-// Making workers, and what one worker does in a call. The place in the row is said by two numbers, as the state has it.
+// Making workers, and what one worker does in a call. A struct of its number and the row's length is no plainer: the state
+// has them as two public fields, and each use would take the struct apart.
 ghost use Rattle.std.specs.Prelude.{◌≡◌, ◌≤◌};
 ghost use Rattle.calls.specs.CallRefusals.{call_numbered};
 ghost use Rattle.actions.specs.Actions.{left};

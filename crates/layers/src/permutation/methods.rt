@@ -1,10 +1,14 @@
 // Making a permutation from a list, and looking up a place in it.
 ghost use Rattle.std.specs.Prelude.{◌≡◌};
+ghost use Rattle.std.specs.Option.{ok_or};
+ghost use Rattle.registers.specs.Refusals.{numbered, refusal_number};
+ghost use Rattle.registers.specs.declared.refusal.Refusal.TheVariants.{NoRegister};
 ghost use Rattle.layers.specs.Permutations.{each_once, kept_list, Permutes};
 ghost use Rattle.layers.specs.Permuting.{named, permuted_size, permuted_place};
 
 use super::{MAX_PERMUTED, Permutation};
 use registers::bank::index_of;
+use registers::refusal::Refusal;
 
 // Whether the list names each of as many registers as it is long exactly once. Tried with
 // `1..=list.len()`: what `all` answers on such a range stayed open.
@@ -36,11 +40,11 @@ impl Permutation {
         if self.count == size { size } else { 0 }
     }
 
-    // The register of `size` of them that is named at this place, which is counted from 1.
-    pub(crate) fn place(&self, size: usize, register: usize) -> Option<usize>
-        ensures { result ≡ permuted_place (named self.now) size register }
+    // The register of `size` of them that is named at this place, which is counted from 1. Refuses (1)
+    // where there is no such place.
+    pub(crate) fn place(&self, size: usize, register: usize) -> Result<usize, Refusal>
+        ensures { numbered result ≡ ok_or (permuted_place (named self.now) size register) (refusal_number NoRegister) }
     {
-        let at = index_of(register, self.extent(size)).ok()?;
-        Some(self.places[at])
+        Ok(self.places[index_of(register, self.extent(size))?])
     }
 }
