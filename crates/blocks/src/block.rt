@@ -46,7 +46,7 @@ pub fn encode<K: Kind>(item: &Record<K>) -> [u8; BLOCK_LEN]
     )
 }
 
-// The four bytes from `at` on as a number, highest byte first. Copying them into an array first is no plainer.
+// The four bytes from `at` on as a number, highest byte first. They are named by their places, as the definition names them.
 fn word(block: &[u8], at: usize) -> u32
     requires { at + 4 ≤ length block.now }
     ensures value { result ≡ word_at block.now at }
@@ -70,8 +70,8 @@ fn is_zero(bytes: &[u8]) -> bool
     bytes.iter().all(|byte| *byte == 0)
 }
 
-// The value bytes count only where the tag says that there is a value; else they must be zero. None
-// where they are neither.
+// The value bytes count only where the tag says that there is a value; else they must be zero. None where the tag has a
+// value and the bytes are no value's image, or has none and they are not zero.
 fn read_value<K: Kind>(tag: Tag, image: [u8; 8]) -> Option<Option<K>>
     ensures value { result ≡ value_of K.Kind.of_image image tag }
     ensures only { (v : Option K) → result ≡ Some v → image ≡ value_bytes K.Kind.image_of v }
@@ -87,10 +87,13 @@ pub fn decode<K: Kind>(block: &[u8]) -> Option<Record<K>>
     ensures value { result ≡ decoded K.Kind.of_image block.now }
     ensures only { (x : Record K) → result ≡ Some x → block.now ≡ encoded K.Kind.image_of x }
 {
-    if block.len() != BLOCK_LEN || block[1] != 0 || block[2] != 0 || block[3] != 0 {
+    if block.len() != BLOCK_LEN {
         return None;
     }
-    let tag = Tag::try_from(block[0]).ok()?;
+    let [tag, 0, 0, 0, ..] = block else {
+        return None;
+    };
+    let tag = Tag::try_from(*tag).ok()?;
     let value = read_value(tag, image(block))?;
     let (round, accepted) = (word(block, 4), word(block, 8));
     Record::new(Fields {

@@ -1,7 +1,7 @@
 // What a worker makes of a record that it read: every read raises `seen` and adopts a decision. The register and what it
 // held stay two parameters: a struct of both would be made for each read and taken apart at once.
 ghost use Rattle.std.specs.Prelude.{◌≡◌};
-ghost use Rattle.protocol.specs.Turns.{candidate_of, noticed, adoption, read_effect, greater, Onward, watch_turn, first_turn, second_turn};
+ghost use Rattle.protocol.specs.Turns.{candidate_of, noticed, adoption, read_effect, greater, Onward, turn, watch_turn, first_turn, second_turn};
 
 use super::state::{Phase, State};
 use calls::outcome::{Effect, Outcome};
@@ -94,8 +94,7 @@ fn onward<V: Copy, F: FnOnce(usize) -> Phase<V>>(
 
 // An idle worker that waits has read the register at its watch place, which moves on.
 pub fn watch_turn<V: Copy>(state: &mut State<V>, fields: &Fields<V>) -> Effect<V>
-    ensures state { state.new ≡ (watch_turn state.old fields.now).state }
-    ensures effect { result ≡ (watch_turn state.old fields.now).effect }
+    ensures { turn state.new result ≡ watch_turn state.old fields.now }
 {
     let register = state.watch;
     state.watch = if register < state.total {
@@ -114,8 +113,7 @@ pub fn first_turn<V: Copy>(
     proposal: V,
     fields: &Fields<V>,
 ) -> Effect<V>
-    ensures state { state.new ≡ (first_turn state.old register kept proposal fields.now).state }
-    ensures effect { result ≡ (first_turn state.old register kept proposal fields.now).effect }
+    ensures { turn state.new result ≡ first_turn state.old register kept proposal fields.now }
 {
     if let Some(adopted) = notice(state, register, fields) {
         return adopted;
@@ -139,8 +137,7 @@ pub fn second_turn<V: Copy>(
     candidate: V,
     fields: &Fields<V>,
 ) -> Effect<V>
-    ensures state { state.new ≡ (second_turn state.old register candidate fields.now).state }
-    ensures effect { result ≡ (second_turn state.old register candidate fields.now).effect }
+    ensures { turn state.new result ≡ second_turn state.old register candidate fields.now }
 {
     if let Some(adopted) = notice(state, register, fields) {
         return adopted;

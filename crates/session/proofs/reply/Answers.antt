@@ -11,11 +11,11 @@ returns-in-Ok g c =
     let parsed = sym c.parse.ensures.value ∙ ap asked_answer c.in-Ok.is in
     let e = line_asks g.K.Kind.of_text c.args.workers.now (g.B.ReadBank.cells c.args.bank.now) bytes _ parsed in
     let w = c.call.ensures in
-    let text = ap (λ h. answer_text g.K.Kind.text_of c.args.number h c.numbered-answer.result) (sym (c.head-head.ensures.whole bytes parsed)) ∙ ap (answer_text g.K.Kind.text_of c.args.number (head_line bytes)) (c.numbered-answer.ensures ∙ w.answer ∙ ap (λ z. z.answer) e) in
+    let text = ap (λ h. answer_text g.K.Kind.text_of c.args.number h c.numbered-answer.result) (sym (c.head-head.ensures.whole bytes parsed)) ∙ ap (answer_text g.K.Kind.text_of c.args.number (head_line bytes)) (c.numbered-answer.ensures ∙ ap (λ z. z.answer) (w.whole ∙ e)) in
     record {
       text = subst (λ t. IfOk c.answer_line.result (λ s. string_bytes s ≡ t)) text c.answer_line.ensures;
-      workers = w.workers ∙ ap (λ z. z.states) e;
-      cells = w.cells ∙ ap (λ z. z.cells) e;
+      workers = ap (λ z. z.states) (w.whole ∙ e);
+      cells = ap (λ z. z.cells) (w.whole ∙ e);
       rest = w.rest;
     }
 

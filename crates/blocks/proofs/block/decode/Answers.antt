@@ -1,4 +1,4 @@
-use Rattle.std.proofs.Common.{◌≡◌, true, Some, sym, refl, ◌∙◌}
+use Rattle.std.proofs.Common.{rules, ◌≡◌, true, Some, sym, refl, ◌∙◌}
 use Rattle.std.specs.Result.{result_ok}
 use Rattle.registers.specs.declared.record.Fields.{Fields}
 use Rattle.blocks.specs.Layout.{is_laid}
@@ -13,7 +13,7 @@ returns g c =
     let t = c.in_ok-tag.tag in
     let v = c.in_ok-value.value in
     let f : Fields _ = record { round = c.word-round.result; accepted = c.word-accepted.result; tag = c.in_ok-tag.tag; value = c.in_ok-value.value } in
-    let whole : is_laid c.args.block.now ≡ true = is_laid_by c.args.block.now c.if-block-ne-BLOCK_LEN.false c.if-block-ne0.false c.if-block-ne0-2.false c.if-block-ne0-3.false in
+    let whole : is_laid c.args.block.now ≡ true = is_laid_by c.args.block.now c.if-block-ne-BLOCK_LEN.false (search rules) (search rules) (search rules) in
     let read : result_ok c.try_from.result ≡ Some c.in_ok-tag.tag = sym c.ok.ensures.value ∙ c.in_ok-tag.was in
     let known = sym read ∙ c.try_from.ensures.value in
     let value = sym c.in_ok-value.was ∙ c.read_value.ensures.value in
