@@ -1,4 +1,4 @@
-// The lines of the input, one after another. Of a long line only so many bytes are kept that it is seen to be too long.
+// The lines of the input, one after another.
 ghost use Rattle.std.specs.Prelude.{◌≤◌, length};
 
 use script::line::MAX_LINE;
@@ -12,6 +12,8 @@ pub(crate) const MAX_LINES: usize = 10_000;
 // The most bytes that are kept of a line: with so many it is seen to be too long.
 const MAX_KEPT: usize = MAX_LINE + 1;
 
+// The line that was read last stays here, with its number: it cannot be handed out on loan while the
+// rest of the desk prints the answer to it.
 #[derive(Drop)]
 pub(crate) struct Lines {
     input: BufReader<Stdin>,
@@ -23,10 +25,9 @@ pub(crate) struct Lines {
 fn before_feed(part: &[u8]) -> usize
     ensures { result ≤ length part.now }
 {
-    match part.iter().position(|byte| *byte == b'\n') {
-        Some(at) => at,
-        None => part.len(),
-    }
+    part.iter()
+        .position(|byte| *byte == b'\n')
+        .unwrap_or(part.len())
 }
 
 impl Lines {

@@ -71,7 +71,7 @@ impl Desk {
             .map_err(Failure::Output)
     }
 
-    // Prints the answer to the line that was read last.
+    // Prints the answer to the line that was read last, a refusal by its number as `answer_line` does.
     fn answer<K: Kind>(
         &mut self,
         head: Option<Head>,
@@ -82,7 +82,8 @@ impl Desk {
     }
 }
 
-// Answers the lines that are left, on an open instance. That reading ends can be shown of a count only.
+// Answers the lines that are left, on an open instance. A `while` is no plainer than the count: its
+// measure is the line's number, and each function of the desk would have to say that it leaves it.
 fn answer_calls<K: Kind, B: WriteBank<Value = K>>(
     desk: &mut Desk,
     workers: &mut [Worker<K>],
@@ -134,7 +135,7 @@ fn answer_before_open(desk: &mut Desk) -> Result<bool, Failure> {
     }
 }
 
-// Answers lines until an instance is opened, and those after it; by a count as above.
+// Answers lines until an instance is opened, and those after it; by a count, as above.
 fn answer_script(desk: &mut Desk) -> Result<(), Failure> {
     for _ in 0..MAX_LINES {
         if !desk.advance()? || answer_before_open(desk)? {

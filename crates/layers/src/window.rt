@@ -64,9 +64,8 @@ impl<B> Window<B> {
     }
 }
 
-// The impls for a permutation's layer have the same shape. One layer over a trait of places was
-// written out and is no plainer: thirty lines more, since each map of places then owes laws on what
-// it shows, whose proofs would have to stand in specs/.
+// A permutation's layer has impls of the same shape. One layer over a trait of places is no plainer:
+// each map of places would owe laws on what it shows, and their proofs would stand in specs/.
 impl<B: ReadBank> ReadBank for Window<B> {
     type Value = B::Value;
 

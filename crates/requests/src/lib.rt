@@ -34,6 +34,7 @@ impl Request {
         ensures { result ≡ window_request_of kind.now first.now count.now }
     {
         let kind = KindName::try_from(kind).ok()?;
+        // two casts that lose nothing: there is no `From` of `u64` into `usize`
         let first = read_decimal(first)? as usize;
         let count = read_decimal(count)? as usize;
         Some(Request {

@@ -38,18 +38,12 @@ fn answer_on(
     Some(answer(&mut row[..workers], &mut bytes[..20 * registers], call))
 }
 
-fn go(worker: usize) -> Option<Call<Batch>> {
-    Some(Call::Step {
-        worker,
-        hint: Hint::Go,
-    })
+fn step(worker: usize, hint: Hint) -> Option<Call<Batch>> {
+    Some(Call::Step { worker, hint })
 }
 
-fn wait(worker: usize) -> Option<Call<Batch>> {
-    Some(Call::Step {
-        worker,
-        hint: Hint::Wait,
-    })
+fn go(worker: usize) -> Option<Call<Batch>> {
+    step(worker, Hint::Go)
 }
 
 fn five(worker: usize) -> Option<Call<Batch>> {
@@ -149,7 +143,7 @@ fn steps_that_cannot_be_taken(rt: HostRuntime) {
         2,
         &damaged,
         2,
-        wait(1),
+        step(1, Hint::Wait),
         12,
         "an unreadable register",
     );
@@ -164,7 +158,7 @@ fn steps_that_cannot_be_taken(rt: HostRuntime) {
             .write(2, &highest)
             .is_ok()
     );
-    accepted(&rt, &mut row, &mut bytes, &[wait(1), wait(1)]);
+    accepted(&rt, &mut row, &mut bytes, &[step(1, Hint::Wait), step(1, Hint::Wait)]);
     refused(&rt, &row, 2, &bytes, 2, go(1), 11, "no higher round");
     accepted(&rt, &mut row, &mut bytes, &[None, five(1)]);
     accepted(

@@ -16,6 +16,7 @@ fn head(line: &str) -> Option<Head> {
     Some(line.head())
 }
 
+// The refusal is its number, as in `answer_line`.
 fn prints<K: Kind>(
     rt: &impl Abort,
     heap: Global,

@@ -55,7 +55,7 @@ impl From<Refused> for u8 {
     }
 }
 
-// The answer with its refusal as the number that is printed.
+// The answer with its refusal as the number that is printed: `answer_line` takes every number.
 fn numbered<T: Copy>(answer: Result<T, Refused>) -> Result<T, u8>
     ensures { result ≡ refused_numbered answer }
 {
