@@ -66,16 +66,21 @@ fn write_at_the_edges<B: WriteBank<Value = Batch>>(rt: &impl Abort, bank: &mut B
     assert!(rt; bank.read(128).is_ok() && bank.read(129).is_err());
 }
 
-fn only_block_128_changed(rt: &impl Abort, bytes: &[u8]) {
-    let block = [
-        0x44u8, 0, 0, 0, 0, 0, 0, 1, 0, 0, 0, 1, 0x42, 0, 0, 0, 0, 0, 0, 9,
-    ];
+// One block of the bytes is this one, and all others are as they were.
+pub(crate) fn only_block_changed(rt: &impl Abort, bytes: &[u8], index: usize, block: &[u8; 20]) {
     for (i, part) in bytes.chunks(20).enumerate() {
-        if i == 127 {
+        if i == index {
             assert!(rt; part == block.as_slice());
         } else {
             assert!(rt; part.iter().all(|byte| *byte == 0x4E));
         }
+    }
+}
+
+// One record is of round 1, and all others are as they were.
+pub(crate) fn only_record_changed(rt: &impl Abort, records: &[Record<Batch>], index: usize) {
+    for (i, record) in records.iter().enumerate() {
+        assert_eq!(rt; record.fields().round == 1, i == index);
     }
 }
 
@@ -89,7 +94,10 @@ fn bytes_hold_128_blocks_and_no_more(rt: HostRuntime) -> Result<(), Fail> {
         Err(Refusal::Unreadable),
         "register 1 comes sooner"
     );
-    only_block_128_changed(&rt, bytes.as_slice());
+    let block = [
+        0x44, 0, 0, 0, 0, 0, 0, 1, 0, 0, 0, 1, 0x42, 0, 0, 0, 0, 0, 0, 9,
+    ];
+    only_block_changed(&rt, bytes.as_slice(), 127, &block);
     Ok(())
 }
 
@@ -100,9 +108,7 @@ fn records_hold_128_registers_and_no_more(rt: HostRuntime) {
     assert_eq!(rt; look_up(&bank), Ok(None));
     write_at_the_edges(&rt, &mut bank);
     assert_eq!(rt; look_up(&bank), Ok(Some(Batch::new(9))));
-    for (i, record) in records.iter().enumerate() {
-        assert_eq!(rt; record.fields().round == 1, i == 127);
-    }
+    only_record_changed(&rt, &records, 127);
 }
 
 fn image_size(bytes: &[u8], len: usize) -> usize {

@@ -1,4 +1,5 @@
 // Layers on layers: a window on a permutation on a window, on records and on bytes, with both kinds.
+use crate::banks::{only_block_changed, only_record_changed};
 use batches::batch::Batch;
 use blocks::block_bank::BlockBank;
 use choices::choice::Choice;
@@ -39,14 +40,12 @@ fn a_window_on_a_permutation_on_a_window_of_records(rt: HostRuntime) {
     stack.point(1, 2);
     assert_eq!(rt; look_up(&stack), Ok(None), "pointed away from the decision");
     // place 3 names register 1 of the inner window, which is record 2
-    for (i, record) in records.iter().enumerate() {
-        assert_eq!(rt; record.fields().round == 1, i == 1);
-    }
+    only_record_changed(&rt, &records, 1);
 }
 
 #[test]
 fn the_same_stack_on_bytes_with_choices(rt: HostRuntime) -> Result<(), Fail> {
-    let choice = Choice::new(7, 2).ok_or(Fail::new("unlawful"))?;
+    let choice = Choice::new(7, 2).ok_or_else(|| Fail::new("unlawful"))?;
     let mut bytes = [0x4Eu8; 100];
     let order = Permutation::new(&[3, 1, 2]);
     let inner = Window::new(BlockBank::<Choice>::new(&mut bytes), 3, 3);
@@ -55,13 +54,7 @@ fn the_same_stack_on_bytes_with_choices(rt: HostRuntime) -> Result<(), Fail> {
     let block = [
         0x44, 0, 0, 0, 0, 0, 0, 1, 0, 0, 0, 1, 0x43, 7, 0, 2, 0, 0, 0, 0,
     ];
-    for (i, part) in bytes.chunks(20).enumerate() {
-        if i == 2 {
-            assert!(rt; part == block.as_slice());
-        } else {
-            assert!(rt; part.iter().all(|byte| *byte == 0x4E));
-        }
-    }
+    only_block_changed(&rt, &bytes, 2, &block);
     Ok(())
 }
 

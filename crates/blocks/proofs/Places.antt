@@ -19,15 +19,6 @@ lays t r a v p q s =
 pub laid_same : {t t' : ℕ} {r r' a a' v v' : List ℕ} → t ≡ t' → r ≡ r' → a ≡ a' → v ≡ v' → laid t r a v ≡ laid t' r' a' v'
 laid_same p q s w = cc
 
--- four bytes from a place on
-pub four_at : (b : List ℕ) (at : ℕ) → at + 4 ≤ length b → take 4 (drop at b) ≡ get_or b at 0 ∷ get_or b (at + 1) 0 ∷ get_or b (at + 2) 0 ∷ get_or b (at + 3) 0 ∷ []
-four_at b at h =
-    let sized : length (take 4 (drop at b)) ≡ 4 = simp (length-take, length-drop) (omega arith) in
-    fill_by_all (λ k. get_or b (at + k) 0) (take 4 (drop at b)) 4 0 sized (λ k p. get_or-take 4 (drop at b) k 0 (omega arith) ∙ get_or-drop at b k 0) ∙ ap (λ z. get_or b z 0 ∷ get_or b (at + 1) 0 ∷ get_or b (at + 2) 0 ∷ get_or b (at + 3) 0 ∷ []) zero_more
-  where
-    zero_more : at + 0 ≡ at
-    zero_more = omega arith
-
 -- a list is its front and its rest
 front : (b : List ℕ) → length b ≡ block_len → b ≡ get_or b 0 0 ∷ get_or b 1 0 ∷ get_or b 2 0 ∷ get_or b 3 0 ∷ drop 4 b
 front b h = drop_more b 0 0 (omega arith) ∙ ap (λ l. get_or b 0 0 ∷ l) (drop_more b 1 0 (omega arith)) ∙ ap (λ l. get_or b 0 0 ∷ get_or b 1 0 ∷ l) (drop_more b 2 0 (omega arith)) ∙ ap (λ l. get_or b 0 0 ∷ get_or b 1 0 ∷ get_or b 2 0 ∷ l) (drop_more b 3 0 (omega arith))

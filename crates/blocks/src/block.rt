@@ -16,6 +16,7 @@ fn value_image<K: Kind>(value: Option<K>) -> [u8; 8]
     ensures bytes { result ≡ value_bytes K.Kind.image_of value }
     ensures back { ImagedBack K.Kind.image_of K.Kind.of_image value }
 {
+    // tried as `map_or`: the proof did not close
     match value {
         None => [0; 8],
         Some(value) => value.image(),

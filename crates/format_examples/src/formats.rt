@@ -28,9 +28,9 @@ fn put() -> Fields<Batch> {
 #[test]
 fn records_make_these_blocks(rt: HostRuntime) -> Result<(), Fail> {
     assert!(rt; encode::<Batch>(&Record::blank()) == BLANK);
-    let record = Record::new(put()).ok_or(Fail::new("unlawful"))?;
+    let record = Record::new(put()).ok_or_else(|| Fail::new("unlawful"))?;
     assert!(rt; encode(&record) == PUT);
-    let read = decode::<Batch>(&PUT).ok_or(Fail::new("unreadable"))?;
+    let read = decode::<Batch>(&PUT).ok_or_else(|| Fail::new("unreadable"))?;
     let read = read.fields();
     assert_eq!(rt; (read.round, read.accepted), (1_000_000_000, 3));
     assert_eq!(rt; (read.tag, read.value), (Tag::Pro, Some(Batch::new(5))));
@@ -93,7 +93,7 @@ fn images_stop_at_the_limits_of_their_kind(rt: HostRuntime) -> Result<(), Fail> 
         Choice::from_image([0; 8]).is_none(),
         "absent is not region 0"
     );
-    let most = Choice::new(95, 65535).ok_or(Fail::new("unlawful"))?;
+    let most = Choice::new(95, 65535).ok_or_else(|| Fail::new("unlawful"))?;
     assert!(rt; most.image() == [0x43, 95, 0xFF, 0xFF, 0, 0, 0, 0]);
     assert!(rt; Batch::new(4294967295).image() == [0x42, 0, 0, 0, 0xFF, 0xFF, 0xFF, 0xFF]);
     Ok(())
@@ -101,7 +101,7 @@ fn images_stop_at_the_limits_of_their_kind(rt: HostRuntime) -> Result<(), Fail> 
 
 #[test]
 fn texts_are_written_and_read_back(rt: HostRuntime) -> Result<(), Fail> {
-    let choice = Choice::from_text(b"0/65535").ok_or(Fail::new("no choice"))?;
+    let choice = Choice::from_text(b"0/65535").ok_or_else(|| Fail::new("no choice"))?;
     let mut out = String::new(rt.alloc());
     choice.append_text(&mut out)?;
     Batch::new(4294967295).append_text(&mut out)?;

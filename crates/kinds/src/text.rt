@@ -6,7 +6,8 @@ use super::kind::Kind;
 use std::alloc::{AllocError, Global};
 use std::fmt::Display;
 
-// Empty where there is no value.
+// Empty where there is no value. No Display of its own: that would need one of every kind, which
+// asks more of who has a kind.
 pub fn value_text<K: Kind>(heap: Global, value: Option<K>) -> Result<String, AllocError>
     ensures { IfOk result (λ s. string_bytes s ≡ value_text K.Kind.text_of value) }
 {

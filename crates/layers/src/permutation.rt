@@ -9,7 +9,7 @@ pub const MAX_PERMUTED: usize = 8;
 
 // The first `count` places name each of the registers 1 to `count` once. An array with a length
 // beside it, and no Vec: a permutation is copied, and making one cannot fail for want of memory.
-#[derive(Clone, Copy)]
+#[derive(Clone, Copy, PartialEq, Eq, Debug)]
 pub struct Permutation {
     places: [usize; MAX_PERMUTED],
     count: usize,

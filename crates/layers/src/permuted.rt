@@ -11,9 +11,8 @@ use registers::record::{Fields, Record};
 use registers::refusal::Refusal;
 
 // Register j is the j-th one that the permutation names. Over a bank of another size than the
-// permutation's there is no register. The permutation is lent and not held by value: tried, and then
-// nothing that makes a window on this layer over lent memory proves, since the prover covers no type
-// argument that holds a `&mut` and a struct with an invariant.
+// permutation's there is no register. The permutation is lent: tried by value, and then no window on
+// this layer over lent memory proves.
 #[derive(Drop)]
 pub struct Permuted<'o, B> {
     below: B,

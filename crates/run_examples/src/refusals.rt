@@ -158,7 +158,12 @@ fn steps_that_cannot_be_taken(rt: HostRuntime) {
             .write(2, &highest)
             .is_ok()
     );
-    accepted(&rt, &mut row, &mut bytes, &[step(1, Hint::Wait), step(1, Hint::Wait)]);
+    accepted(
+        &rt,
+        &mut row,
+        &mut bytes,
+        &[step(1, Hint::Wait), step(1, Hint::Wait)],
+    );
     refused(&rt, &row, 2, &bytes, 2, go(1), 11, "no higher round");
     accepted(&rt, &mut row, &mut bytes, &[None, five(1)]);
     accepted(

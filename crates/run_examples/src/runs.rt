@@ -136,8 +136,8 @@ fn settle_and_adopt<B: WriteBank<Value = Choice>>(
 
 #[test]
 fn a_decision_is_adopted_through_a_window(rt: HostRuntime) -> Result<(), Fail> {
-    let choice = Choice::new(0, 7).ok_or(Fail::new("no choice"))?;
-    let other = Choice::new(95, 1).ok_or(Fail::new("no choice"))?;
+    let choice = Choice::new(0, 7).ok_or_else(|| Fail::new("no choice"))?;
+    let other = Choice::new(95, 1).ok_or_else(|| Fail::new("no choice"))?;
     let mut records = [Record::<Choice>::blank(); 5];
     let mut bank = Window::new(RecordBank::new(&mut records), 2, 3);
     let mut workers = [Worker::<Choice>::new(); 3];

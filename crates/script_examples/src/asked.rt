@@ -109,7 +109,7 @@ fn fields_start_and_end_here(rt: HostRuntime) -> Result<(), Fail> {
         (6, 7, "x"),
         (7, 7, ""),
     ] {
-        let field = field_at(line.as_bytes(), start).ok_or(Fail::new("no field"))?;
+        let field = field_at(line.as_bytes(), start).ok_or_else(|| Fail::new("no field"))?;
         assert_eq!(rt; (field.start, field.end), (start, end));
         assert!(rt; field.bytes == want.as_bytes());
     }

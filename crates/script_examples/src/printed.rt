@@ -52,7 +52,7 @@ fn accepted_lines_are_answered_so(rt: HostRuntime) -> Result<(), Fail> {
     )?;
     let zero = Answer::Proposed(Batch::new(0));
     prints(&rt, heap, 2, "P,1,0", Ok(zero), "2,P,1,proposed,,,0\n")?;
-    let choice = Choice::new(95, 65535).ok_or(Fail::new("no choice"))?;
+    let choice = Choice::new(95, 65535).ok_or_else(|| Fail::new("no choice"))?;
     let choice = Answer::Proposed(choice);
     prints(
         &rt,

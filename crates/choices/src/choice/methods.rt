@@ -52,7 +52,8 @@ fn edition_of(high: u8, low: u8) -> u16
     u16::from_be_bytes([high, low])
 }
 
-// Where the first slash stands.
+// Where the first slash stands. For scripts there is the like for a comma: one line each, and no
+// function for both would be shorter to call.
 fn slash(text: &[u8]) -> Option<usize>
     ensures { result ≡ first_slash text.now }
 {
