@@ -47,7 +47,8 @@ pub fn encode<K: Kind>(item: &Record<K>) -> [u8; BLOCK_LEN]
     )
 }
 
-// The four bytes from `at` on as a number, highest byte first. They are named by their places, as the definition names them.
+// The four bytes from `at` on as a number, highest byte first. Copying them into an
+// array first is no plainer: the definition names them by their places.
 fn word(block: &[u8], at: usize) -> u32
     requires { at + 4 ≤ length block.now }
     ensures value { result ≡ word_at block.now at }

@@ -9,8 +9,8 @@ use registers::record::Record;
 use registers::refusal::Refusal;
 use std::marker::PhantomData;
 
-// One register for each whole block, at most 128. A type of its own beside BlockBank: what is lent is
-// read only, so there is no writing side.
+// One register for each whole block, at most 128. Beside BlockBank it has the reading side once more:
+// one type over both loans is no plainer, since it would need a trait of loans.
 #[derive(Drop)]
 pub struct ImageBank<'a, K> {
     bytes: &'a [u8],

@@ -1,5 +1,6 @@
 // The calls on an instance: a row of workers in the caller's memory, and a bank with a register for each.
-// Both are lent for each call and no struct holds them: a worker is changed where the caller has it.
+// Both are lent for each call and no struct holds them, as the project's rules ask. That a refusal changes nothing is
+// a clause of its own (`kept`) on each call, also by the rules.
 ghost use Rattle.std.specs.Prelude.{◌≡◌, ◌<◌, length, IfOk};
 ghost use Rattle.calls.specs.CallRefusals.{call_numbered};
 ghost use Rattle.engine.specs.Steps.{row_answer, sizes_answer, place_answer, whole, step_whole};

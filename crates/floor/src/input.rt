@@ -12,8 +12,6 @@ pub(crate) const MAX_LINES: usize = 10_000;
 // The most bytes that are kept of a line: with so many it is seen to be too long.
 const MAX_KEPT: usize = MAX_LINE + 1;
 
-// The line that was read last stays here, with its number: it cannot be handed out on loan while the
-// rest of the desk prints the answer to it.
 #[derive(Drop)]
 pub(crate) struct Lines {
     input: BufReader<Stdin>,
@@ -21,7 +19,7 @@ pub(crate) struct Lines {
     number: usize,
 }
 
-// How many bytes stand before the first line feed, or in all.
+// How many bytes stand before the first line feed, or in all. One line, as for a slash or a comma.
 fn before_feed(part: &[u8]) -> usize
     ensures { result ≤ length part.now }
 {
@@ -49,18 +47,18 @@ impl Lines {
         self.number
     }
 
-    // Reads the next line, if one is left to be read.
-    pub(crate) fn advance(&mut self) -> io::Result<bool> {
+    // Reads the next line and answers its number, or none where no line is left to be read.
+    pub(crate) fn next(&mut self) -> io::Result<Option<usize>> {
         let number = self.number;
         if number >= MAX_LINES {
-            return Ok(false);
+            return Ok(None);
         }
         self.line.clear();
         if !self.read()? {
-            return Ok(false);
+            return Ok(None);
         }
         self.number = number + 1;
-        Ok(true)
+        Ok(Some(number + 1))
     }
 
     // Reads up to the line feed or the end of the input; false where there is nothing before it.

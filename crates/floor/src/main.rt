@@ -60,9 +60,9 @@ struct Desk {
 }
 
 impl Desk {
-    // Reads the next line, if there is one.
-    fn advance(&mut self) -> Result<bool, Failure> {
-        self.lines.advance().map_err(Failure::Input)
+    // The number of the next line, if there is one.
+    fn next(&mut self) -> Result<Option<usize>, Failure> {
+        self.lines.next().map_err(Failure::Input)
     }
 
     fn print(&mut self, text: &str) -> Result<(), Failure> {
@@ -90,43 +90,47 @@ fn answer_calls<K: Kind, B: WriteBank<Value = K>>(
     bank: &mut B,
 ) -> Result<(), Failure> {
     for _ in 0..MAX_LINES {
-        if !desk.advance()? {
+        let Some(number) = desk.next()? else {
             return Ok(());
-        }
-        let text = reply(
-            desk.heap,
-            desk.lines.number(),
-            desk.lines.line(),
-            workers,
-            bank,
-        )?;
+        };
+        let text = reply(desk.heap, number, desk.lines.line(), workers, bank)?;
         desk.print(text.as_str())?;
     }
     Ok(())
 }
 
-// Opens an instance of this kind, and answers the lines that are left; false where it is refused. A
-// line asks for at most 255 workers, so the memory is bounded whatever is sent.
-fn open_and_answer<K: Kind>(desk: &mut Desk, head: Head, workers: usize) -> Result<bool, Failure> {
-    let mut row = vec![in desk.heap; Worker::<K>::new(); workers]?;
-    let mut bytes = vec![in desk.heap; 0u8; BLOCK_LEN.saturating_mul(workers)]?;
-    let mut bank = BlockBank::<K>::new(bytes.as_mut_slice());
-    let opened = open(row.as_mut_slice(), &mut bank);
+// Opens an instance, and answers the lines that are left; false where it is refused.
+fn open_and_answer<K: Kind, B: WriteBank<Value = K>>(
+    desk: &mut Desk,
+    head: Head,
+    workers: &mut [Worker<K>],
+    bank: &mut B,
+) -> Result<bool, Failure> {
+    let opened = open(workers, bank);
     let answer = opened.map(|()| Answer::Opened).map_err(u8::from);
     desk.answer::<K>(Some(head), answer)?;
     if opened.is_ok() {
-        answer_calls(desk, row.as_mut_slice(), &mut bank)?;
+        answer_calls(desk, workers, bank)?;
     }
     Ok(opened.is_ok())
+}
+
+// Opens an instance of this kind. A line asks for at most 255 workers, so memory is bounded whatever
+// is sent. (Arrays of eight were tried: of a generic kind it is not known that they fit.)
+fn open_kind<K: Kind>(desk: &mut Desk, head: Head, workers: usize) -> Result<bool, Failure> {
+    let mut row = vec![in desk.heap; Worker::<K>::new(); workers]?;
+    let mut bytes = vec![in desk.heap; 0u8; BLOCK_LEN.saturating_mul(workers)]?;
+    let mut bank = BlockBank::<K>::new(bytes.as_mut_slice());
+    open_and_answer(desk, head, row.as_mut_slice(), &mut bank)
 }
 
 // Answers a line where nothing is open, and all after it if it opens an instance.
 fn answer_before_open(desk: &mut Desk) -> Result<bool, Failure> {
     match read_opening(desk.lines.line()) {
-        // the kind's name picks the type of the values, which no closure or `dyn` could
+        // no plainer otherwise: the kind's name picks the type of the values
         Ok((head, opening)) => match opening.kind {
-            KindName::Batch => open_and_answer::<Batch>(desk, head, opening.workers),
-            KindName::Choice => open_and_answer::<Choice>(desk, head, opening.workers),
+            KindName::Batch => open_kind::<Batch>(desk, head, opening.workers),
+            KindName::Choice => open_kind::<Choice>(desk, head, opening.workers),
         },
         Err((head, refusal)) => {
             desk.answer::<Batch>(head, Err(u8::from(refusal)))?;
@@ -138,7 +142,7 @@ fn answer_before_open(desk: &mut Desk) -> Result<bool, Failure> {
 // Answers lines until an instance is opened, and those after it; by a count, as above.
 fn answer_script(desk: &mut Desk) -> Result<(), Failure> {
     for _ in 0..MAX_LINES {
-        if !desk.advance()? || answer_before_open(desk)? {
+        if desk.next()?.is_none() || answer_before_open(desk)? {
             return Ok(());
         }
     }

@@ -17,8 +17,8 @@ const IMAGE_LEN: u64 = 2560;
 const USAGE: &str =
     "usage: inspect KIND [FIRST COUNT] < IMAGE, where KIND is B for batch numbers or C for choices, and FIRST and COUNT are decimal numbers up to 18446744073709551615";
 
-// Why nothing, or not all, was shown. The floor program has its own: what each cannot do differs, and
-// a crate for what is left in common would be longer.
+// Why nothing, or not all, was shown. The floor program has its own, and a `main` like this one's: a
+// crate for the little that both have in common is no plainer.
 #[derive(Drop)]
 enum Failure {
     Arguments,
@@ -72,7 +72,7 @@ fn read_image(rt: &HostRuntime) -> io::Result<Vec<u8>> {
 }
 
 fn show(heap: Global, request: Request, image: &[u8]) -> Result<String, AllocError> {
-    // the kind's name picks the type of the values, which no closure or `dyn` could
+    // no plainer otherwise: the kind's name picks the type of the values
     match request.kind {
         KindName::Batch => view::<Batch>(heap, image, request.span),
         KindName::Choice => view::<Choice>(heap, image, request.span),

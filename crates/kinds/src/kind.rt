@@ -21,7 +21,9 @@ pub trait Kind: Copy {
         ensures value { result ≡ of_image image }
         ensures only { (v : Self) → result ≡ Some v → image ≡ image_of v };
 
-    // Where there is no memory for it, `out` stays as it was.
+    // Where there is no memory for it, `out` stays as it was. Each kind has its own, one line by
+    // `text::append`: a body here would need a Display of every kind, which asks more, and would owe
+    // `back` of values that there are none of.
     fn append_text(self, out: &mut String) -> Result<(), AllocError>
         ensures bytes { string_bytes out.new ≡ (if is_ok result then string_bytes out.old ++ text_of self else string_bytes out.old) }
         ensures back { of_text (text_of self) ≡ Some self };

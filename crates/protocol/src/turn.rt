@@ -142,12 +142,8 @@ pub fn second_turn<V: Copy>(
     if let Some(adopted) = notice(state, register, fields) {
         return adopted;
     }
-    onward(
-        state,
-        register,
-        fields,
-        Phase::Sure { candidate },
-        candidate,
-        |next| Phase::Second { next, candidate },
-    )
+    let sure = Phase::Sure { candidate };
+    onward(state, register, fields, sure, candidate, |next| {
+        Phase::Second { next, candidate }
+    })
 }

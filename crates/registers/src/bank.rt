@@ -47,7 +47,7 @@ pub trait WriteBank: ReadBank {
 
     // Makes a register hold the record of these fields, and leaves the others. Refuses a number
     // that no register has (1), then fields of no lawful record (2).
-    // An impl that promises more repeats these clauses, as the prover asks.
+    // An impl with clauses of its own repeats these: its list takes their place.
     fn write(&mut self, register: usize, fields: &Fields<Self::Value>) -> Result<(), Refusal>
         ensures answer { numbered result ≡ write_answer (Self.cells self.old) register fields.now }
         ensures after { Self.cells self.new ≡ write_cells (Self.cells self.old) register fields.now }

@@ -11,6 +11,7 @@ pub struct Field<'a> {
     pub end: usize,
 }
 
+// One line, as for a slash in choices.
 fn first_comma(text: &[u8]) -> Option<usize>
     ensures { result ≡ position is_comma text.now }
 {

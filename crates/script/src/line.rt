@@ -17,7 +17,9 @@ use kinds::name::KindName;
 // The most bytes that a line can have.
 pub const MAX_LINE: usize = 40;
 
-// The call that a line names by its letter, with its fields. A value is the part of the line that is its field.
+// The call that a line names by its letter, with its fields. A value is the part of the line that is its field. Clauses see
+// it as `asked` of it, since an enum can have no Model; those named `whole` say the same of the bytes, and a name for their
+// premise is no plainer.
 #[derive(Clone, Copy, PartialEq, Eq, Debug)]
 pub enum Line<'a> {
     Open { workers: u8, kind: KindName },

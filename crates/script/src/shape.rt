@@ -1,4 +1,4 @@
-// How a line is taken apart.
+// How a line is taken apart. Each function says of the value where it lies (`place`): a caller learns it in no other way.
 ghost use Rattle.std.specs.Prelude.{◌≡◌, IfSome};
 ghost use Rattle.std.specs.Option.{option_map};
 ghost use Rattle.script.specs.Shapes.{asked, number_of, two_fields, open_of, propose_of, numbers_of, shape, whole_line};

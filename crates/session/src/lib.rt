@@ -86,7 +86,7 @@ pub fn read_opening(line: &[u8]) -> Result<(Head, Opening), (Option<Head>, LineR
     Ok((head, opening))
 }
 
-// The answer to a line on an open instance, as text.
+// The answer to a line on an open instance, as text. With a text and no record for an answer, its clauses stay three.
 pub fn reply<K: Kind, B: WriteBank<Value = K>>(
     heap: Global,
     number: usize,

@@ -52,8 +52,8 @@ fn edition_of(high: u8, low: u8) -> u16
     u16::from_be_bytes([high, low])
 }
 
-// Where the first slash stands. For scripts there is the like for a comma: one line each, and no
-// function for both would be shorter to call.
+// Where the first slash stands. A comma (script) and a line feed (floor) are found by one line each
+// too: one function for all is no plainer.
 fn slash(text: &[u8]) -> Option<usize>
     ensures { result ≡ first_slash text.now }
 {

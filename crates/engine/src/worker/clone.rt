@@ -1,4 +1,4 @@
-// A worker is copied as it stands. By hand: `Clone` cannot be derived over a ghost field of a generic struct.
+// A worker is copied as it stands. By hand: tried, and the derive is refused over a ghost field of a generic struct.
 ghost use Rattle.std.specs.Prelude.{◌≡◌, ⊤};
 
 use super::Worker;

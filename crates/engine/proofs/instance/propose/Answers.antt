@@ -1,5 +1,4 @@
-use Rattle.std.proofs.Common.{Err, set, sym, ap, ◌∙◌}
-use Rattle.std.proofs.lemmas.Result.{err_from_is_err_and}
+use Rattle.std.proofs.Common.{set, sym, ap, ◌∙◌}
 use Rattle.calls.specs.CallRefusals.{call_numbered}
 use Rattle.engine.specs.Rows.{states}
 use Rattle.engine.proofs.Rows.{states_set}
@@ -9,12 +8,6 @@ use Rattle.engine.proofs.instance.propose.Goals as goal
 pub returns-in_err-check_row-clause-workers : goal.returns-in_err-check_row-clause-workers
 returns-in_err-check_row-clause-workers g c =
     ap (λ r. r.states) (propose_size c.args.workers.now c.args.worker c.args.value _ _ c.check_row.ensures c.in_err-check_row.was)
-
-pub returns-in_err-place-clause-answer : goal.returns-in_err-place-clause-answer
-returns-in_err-place-clause-answer g c =
-    let p = err_from_is_err_and c.from_residual-in_err-place.result c.from_residual-in_err-place.ensures.1 in
-    let fit = sym c.check_row.ensures ∙ ap call_numbered c.in_ok-check_row.was in
-    ap call_numbered (p.1 ∙ ap Err p.2) ∙ ap (λ r. r.answer) (propose_nowhere c.args.workers.now c.args.worker c.args.value _ _ fit c.place.ensures.value c.in_err-place.was)
 
 pub returns-in_err-place-clause-workers : goal.returns-in_err-place-clause-workers
 returns-in_err-place-clause-workers g c =
