@@ -1,12 +1,13 @@
 -- What a step does on the whole row: the answer, the workers and the cells after it, as one definition.
 use Rattle.std.specs.Prelude.{ℕ, ◌-◌, Bool, cond, ◌&&◌, List, length, Some, None, Ok, Err, Option, Result, ◌==◌, nat_le, slice_set}
 use Rattle.std.specs.List.{slice_get}
-use Rattle.registers.specs.Cells.{Cell, stands}
+use Rattle.registers.specs.Cells.{Cell, stands, index_or}
+use Rattle.registers.specs.Refusals.{numbered_by}
 use Rattle.calls.specs.declared.hint.Hint.{Hint}
 use Rattle.calls.specs.declared.outcome.Effect.{Effect}
 use Rattle.calls.specs.declared.refusal.CallRefusal.{CallRefusal}
 use Rattle.calls.specs.declared.refusal.CallRefusal.TheVariants.{Size, NoWorker, Misplaced, Crashed, NoProposal}
-use Rattle.calls.specs.CallRefusals.{call_refusal_number, call_numbered}
+use Rattle.calls.specs.CallRefusals.{call_refusal_number}
 use Rattle.protocol.specs.declared.state.State.{State}
 use Rattle.protocol.specs.Rounds.{max_workers}
 use Rattle.actions.specs.Actions.{After, refused, taken}
@@ -27,7 +28,7 @@ sizes_fit size n = is_row size && size == n
 
 -- the place of worker i in a row of n, from 0
 abbrev pub place_answer : ℕ → ℕ → Result ℕ ℕ
-place_answer i n = cond (stands n i) (Ok (i - 1)) (Err (call_refusal_number NoWorker))
+place_answer i n = index_or (call_refusal_number NoWorker) n i
 
 abbrev pub row_answer : ℕ → Result (Unit {0}) ℕ
 row_answer n = cond (is_row n) (Ok tt) (Err (call_refusal_number Size))
@@ -59,9 +60,12 @@ module _ {V : Type 0} where
       (refused Misplaced s cells)
 
   module _ {X : Type 0} where
-    -- what a call left, by its answer, the row and the cells at the return
+    -- what a call left, by its answer, the row and the cells at the return; `number` gives each refusal its number
+    abbrev pub whole_by : {R : Type 0} → (R → ℕ) → Result X R → List (State V) → List (Cell V) → Whole X V
+    whole_by number answer states cells = record { answer = numbered_by number answer; states = states; cells = cells }
+
     abbrev pub whole : Result X CallRefusal → List (State V) → List (Cell V) → Whole X V
-    whole answer states cells = record { answer = call_numbered answer; states = states; cells = cells }
+    whole answer states cells = whole_by call_refusal_number answer states cells
 
     abbrev pub unchanged : CallRefusal → List (State V) → List (Cell V) → Whole X V
     unchanged e states cells = record { answer = Err (call_refusal_number e); states = states; cells = cells }

@@ -18,9 +18,12 @@ Cell V = Option (Record V)
 abbrev pub stands : ℕ → ℕ → Bool
 stands n j = nat_le 1 j && nat_le j n
 
--- the index of register j of n, from 0
+-- the index, from 0, of number j of n, or a refusal with the number e
+abbrev pub index_or : ℕ → ℕ → ℕ → Result ℕ ℕ
+index_or e n j = cond (stands n j) (Ok (j - 1)) (Err e)
+
 abbrev pub index_answer : ℕ → ℕ → Result ℕ ℕ
-index_answer n j = cond (stands n j) (Ok (j - 1)) (Err (refusal_number NoRegister))
+index_answer n j = index_or (refusal_number NoRegister) n j
 
 module _ {V : Type 0} where
   abbrev pub cell_answer : Cell V → Result (Record V) ℕ

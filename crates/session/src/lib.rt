@@ -6,8 +6,9 @@ ghost use Rattle.script.specs.Shapes.{asked};
 ghost use Rattle.script.specs.Lines.{opening_line, head_line};
 ghost use Rattle.answers.specs.Answers.{answer_text};
 ghost use Rattle.engine.specs.Rows.{states};
+ghost use Rattle.engine.specs.Steps.{whole_by};
 ghost use Rattle.session.specs.declared.Refused.TheVariants.{Line, Call};
-ghost use Rattle.session.specs.Refusing.{refused_number, refused_numbered, left, opened};
+ghost use Rattle.session.specs.Refusing.{refused_number, refused_numbered, opened};
 ghost use Rattle.session.specs.Sessions.{asked_whole, line_whole};
 
 use answers::answer_line;
@@ -68,7 +69,7 @@ fn call<K: Kind, B: WriteBank<Value = K>>(
     workers: &mut [Worker<K>],
     bank: &mut B,
 ) -> Result<Answer<K>, Refused>
-    ensures whole { left result (states workers.new) (B.ReadBank.cells bank.new) ≡ asked_whole K.Kind.of_text (asked line.entry) (states workers.old) (B.ReadBank.cells bank.old) }
+    ensures whole { whole_by refused_number result (states workers.new) (B.ReadBank.cells bank.new) ≡ asked_whole K.Kind.of_text (asked line.entry) (states workers.old) (B.ReadBank.cells bank.old) }
     ensures rest { B.rest bank.new ≡ B.rest bank.old }
 {
     let call = line.call::<K>(workers.len())?;

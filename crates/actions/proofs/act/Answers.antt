@@ -1,3 +1,4 @@
+-- A worker that is ready puts its candidate.
 use Rattle.std.proofs.Common.{sym, ap, ◌∙◌}
 use Rattle.actions.specs.Actions.{put, acted, reading}
 use Rattle.actions.proofs.act.Goals as goal

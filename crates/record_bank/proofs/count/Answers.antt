@@ -1,3 +1,4 @@
+-- There are as many cells as registers.
 use Rattle.std.proofs.Common.{arith}
 use Rattle.record_bank.proofs.RecordBanks.{record_count}
 use Rattle.record_bank.proofs.count.Goals as goal

@@ -1,3 +1,4 @@
+-- A read answers the record of its register.
 use Rattle.std.proofs.Common.{◌<◌, length, arith}
 use Rattle.record_bank.specs.RecordCells.{record_cells}
 use Rattle.record_bank.proofs.RecordBanks.{within, record_read}

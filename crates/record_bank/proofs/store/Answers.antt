@@ -1,3 +1,4 @@
+-- A write puts the record in the place of its register.
 use Rattle.std.proofs.Common.{◌≡◌, ◌<◌, length, Some, arith, rules}
 use Rattle.registers.specs.Records.{made}
 use Rattle.record_bank.specs.RecordCells.{record_cells}

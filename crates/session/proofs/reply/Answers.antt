@@ -1,3 +1,4 @@
+-- A line that is taken is answered as its call is, and another by its refusal.
 use Rattle.std.proofs.Common.{◌≡◌, IfOk, Err, string_bytes, sym, refl, ap, ◌∙◌, subst}
 use Rattle.script.specs.Shapes.{asked_answer}
 use Rattle.script.specs.Lines.{head_line}

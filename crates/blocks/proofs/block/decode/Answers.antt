@@ -1,3 +1,4 @@
+-- A block is read by its parts, and one that reads as a record is that record's.
 use Rattle.std.proofs.Common.{rules, ◌≡◌, true, Some, sym, refl, ◌∙◌}
 use Rattle.std.specs.Result.{result_ok}
 use Rattle.registers.specs.declared.record.Fields.{Fields}

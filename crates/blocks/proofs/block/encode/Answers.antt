@@ -1,3 +1,4 @@
+-- The block of a record reads back as it.
 use Rattle.std.proofs.Common.{◌≡◌, length, sym, ap, ◌∙◌, subst, arith, rules}
 use Rattle.blocks.specs.Blocks.{value_bytes, ImagedBack, encoded, decoded}
 use Rattle.blocks.proofs.RoundTrip.{round_trip}

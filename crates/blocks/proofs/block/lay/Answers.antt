@@ -1,3 +1,4 @@
+-- The bytes listed one by one are the parts laid out.
 use Rattle.std.proofs.Common.{arith}
 use Rattle.blocks.proofs.Places.{lays}
 use Rattle.blocks.proofs.block.lay.Goals as goal

@@ -1,3 +1,4 @@
+-- Bytes that are read as an absent value are zeros.
 use Rattle.std.proofs.Common.{◌≡◌, Bool, true, false, List, ℕ, length, Some, None, Option, sym, ap, ◌∙◌, arith}
 use Rattle.std.specs.Bool.{then_some}
 use Rattle.std.proofs.lemmas.Option.{none-some}

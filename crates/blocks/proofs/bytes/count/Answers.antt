@@ -1,3 +1,4 @@
+-- There are as many cells as registers.
 use Rattle.std.proofs.Common.{arith}
 use Rattle.blocks.proofs.BlockBanks.{blocks_length}
 use Rattle.blocks.proofs.bytes.count.Goals as goal

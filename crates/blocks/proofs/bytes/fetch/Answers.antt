@@ -1,3 +1,4 @@
+-- A read decodes the block of its register.
 use Rattle.std.proofs.Common.{◌≡◌, ◌<◌, length, ◌+◌, ◌-◌, ◌*◌, Some, None, refl, ap, ◌∙◌, arith}
 use Rattle.std.specs.Option.{ok_or}
 use Rattle.registers.specs.Cells.{Cell, cell_answer}

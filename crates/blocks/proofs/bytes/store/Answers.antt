@@ -1,3 +1,4 @@
+-- A write puts the record's block in the place of its register.
 use Rattle.std.proofs.Common.{◌≡◌, ◌+◌, ◌-◌, ◌*◌, ◌<◌, length, Some, ap, ◌∙◌, arith, rules}
 use Rattle.registers.specs.Records.{made}
 use Rattle.blocks.specs.Layout.{block_len}

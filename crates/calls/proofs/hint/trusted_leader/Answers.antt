@@ -1,3 +1,4 @@
+-- The worker behind the lowest ones of the mask leads.
 use Rattle.std.proofs.Common.{arith}
 use Rattle.calls.proofs.Leading.{leads}
 use Rattle.calls.proofs.hint.trusted_leader.Goals as goal

@@ -1,3 +1,4 @@
+-- Each turn makes one more register blank.
 use Rattle.std.proofs.Common.{ap, ◌∙◌, arith}
 use Rattle.registers.specs.Records.{fields_of}
 use Rattle.engine.proofs.Opening.{blanked_more, blank_all}

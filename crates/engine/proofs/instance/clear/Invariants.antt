@@ -1,3 +1,4 @@
+-- The registers before this one are blank.
 use Rattle.std.proofs.Common.{◌≡◌, ℕ, ◌+◌, ◌<◌, length, get_or, Some}
 use Rattle.registers.specs.Records.{blank}
 use Rattle.registers.specs.Cells.{Cell}

@@ -1,3 +1,4 @@
+-- Opening a bank that fits makes all new, and another changes nothing.
 use Rattle.std.proofs.Common.{length, Ok, Err, sym, ap, ◌∙◌}
 use Rattle.std.proofs.lemmas.Result.{err_from_is_err_and}
 use Rattle.calls.specs.CallRefusals.{call_numbered}

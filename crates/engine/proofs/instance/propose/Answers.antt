@@ -1,3 +1,4 @@
+-- A proposal changes its worker, and a refused one no worker.
 use Rattle.std.proofs.Common.{set, sym, ap, ◌∙◌}
 use Rattle.calls.specs.CallRefusals.{call_numbered}
 use Rattle.engine.specs.Rows.{states}

@@ -1,3 +1,4 @@
+-- The workers before this place are new.
 use Rattle.std.proofs.Common.{◌≡◌, ℕ, ◌+◌, ◌<◌, get_or}
 use Rattle.protocol.specs.declared.state.State.{State}
 use Rattle.engine.specs.Instances.{fresh}

@@ -1,3 +1,4 @@
+-- A step of the row is that of its worker, and a refused one changes nothing.
 use Rattle.std.proofs.Common.{Err, sym, refl, ap, ◌∙◌, subst}
 use Rattle.std.proofs.lemmas.Result.{err_from_is_err_and}
 use Rattle.calls.specs.CallRefusals.{call_numbered}

@@ -1,3 +1,4 @@
+-- Each turn counts one more worker.
 use Rattle.engine.specs.Instances.{has_decided}
 use Rattle.engine.proofs.Counting.{count_fits, count_more}
 use Rattle.engine.proofs.instance.tally.Goals as goal

@@ -1,3 +1,4 @@
+-- What was counted is the count of the workers so far.
 use Rattle.std.proofs.Common.{◌≡◌, ◌≤◌, take}
 use Rattle.std.specs.List.{count_by}
 use Rattle.engine.specs.Instances.{has_decided}

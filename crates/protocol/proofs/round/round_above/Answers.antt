@@ -1,3 +1,4 @@
+-- The round is the least above what was seen.
 use Rattle.std.proofs.Common.{arith}
 use Rattle.protocol.proofs.RoundLaws.{least_next}
 use Rattle.protocol.proofs.round.round_above.Goals as goal

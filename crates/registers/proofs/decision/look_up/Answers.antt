@@ -1,3 +1,4 @@
+-- A look-up ends at the first register that is decided or unreadable, or behind the last.
 use Rattle.std.proofs.Common.{◌-◌, Ok, sym, refl, ap, ◌∙◌, subst, arith}
 use Rattle.registers.specs.Decision.{Looked}
 use Rattle.registers.specs.Refusals.{numbered}

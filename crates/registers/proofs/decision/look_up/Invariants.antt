@@ -1,3 +1,4 @@
+-- No register before this one is decided or unreadable.
 use Rattle.std.proofs.Common.{◌≡◌, ◌-◌, drop}
 use Rattle.registers.specs.Decision.{shown, UndecidedBefore}
 use Rattle.registers.proofs.decision.look_up.Given as goal

@@ -1,3 +1,4 @@
+-- The report is whole once the last line stands behind those of the registers.
 use Rattle.std.proofs.Common.{◌≡◌, ◌+◌, ◌-◌, ◌++◌, length, string_bytes, refl, ap, ◌∙◌, append_assoc, arith, rules}
 use Rattle.registers.specs.Cells.{read_answer}
 use Rattle.registers.specs.Decision.{shown}

@@ -1,3 +1,4 @@
+-- What is written, and the lines still to come.
 use Rattle.std.proofs.Common.{◌≡◌, ◌-◌, ◌++◌, length, drop, string_bytes}
 use Rattle.report.specs.Lines.{register_lines, size_row}
 use Rattle.report.proofs.view.report.Given as goal

@@ -1,3 +1,4 @@
+-- A step leaves its worker sound.
 use Rattle.std.proofs.Common.{◌≡◌, true, sym, ap, subst}
 use Rattle.engine.specs.Sound.{is_sound}
 use Rattle.engine.proofs.Stepping.{taken_fine}

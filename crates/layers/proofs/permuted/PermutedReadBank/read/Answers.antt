@@ -1,3 +1,4 @@
+-- A read answers what the register below that is named there does.
 use Rattle.std.proofs.Common.{arith}
 use Rattle.std.proofs.lemmas.Grind.{common_steps}
 use Rattle.layers.proofs.PermutedViews.{placed}

@@ -1,3 +1,4 @@
+-- A write goes to the register below that is named there, and to no other.
 use Rattle.std.proofs.Common.{arith}
 use Rattle.std.proofs.lemmas.Grind.{common_steps}
 use Rattle.layers.proofs.PermutedViews.{placed, permuted_write}

@@ -1,3 +1,4 @@
+-- A write goes to the register below that the window shows there, and to no other.
 use Rattle.std.proofs.Common.{arith}
 use Rattle.std.proofs.lemmas.Grind.{common_steps}
 use Rattle.layers.proofs.WindowViews.{window_write}

@@ -1,3 +1,4 @@
+-- The fields of a record are lawful and make it again.
 use Rattle.std.proofs.Common.{refl}
 use Rattle.registers.proofs.Making.{made_back, lawful}
 use Rattle.registers.proofs.record.Record.fields.Goals as goal

@@ -1,3 +1,4 @@
+-- Lawful fields make the record.
 use Rattle.std.proofs.Common.{sym}
 use Rattle.registers.proofs.Making.{made_with}
 use Rattle.registers.proofs.record.Record.new.Goals as goal
