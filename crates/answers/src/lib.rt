@@ -48,9 +48,12 @@ fn step_line<K: Kind>(heap: Global, start: Start, effect: Effect<K>) -> Result<S
     ensures { IfOk result (λ s. string_bytes s ≡ accepted_row K.Kind.text_of (start_text start.number start.head) (Stepped effect)) }
 {
     let value = value_text(heap, effect.value)?;
+    // the outcome by its word, which cannot fail: of a Display no contract says so
     format!(in heap;
         "{start},{},{},{},{value}\n",
-        effect.outcome, effect.register, effect.round
+        effect.outcome.word(),
+        effect.register,
+        effect.round
     )
 }
 

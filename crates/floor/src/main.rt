@@ -6,12 +6,14 @@ use batches::batch::Batch;
 use blocks::block::BLOCK_LEN;
 use blocks::block_bank::BlockBank;
 use calls::call::Answer;
+use calls::refusal::CallRefusal;
 use choices::choice::Choice;
 use engine::instance::open;
 use engine::worker::Worker;
 use input::{Lines, MAX_LINES};
 use kinds::kind::Kind;
 use kinds::name::KindName;
+use protocol::round::MAX_WORKERS;
 use registers::bank::WriteBank;
 use script::line::Head;
 use session::{read_opening, reply};
@@ -115,13 +117,22 @@ fn open_and_answer<K: Kind, B: WriteBank<Value = K>>(
     Ok(opened.is_ok())
 }
 
-// Opens an instance of this kind. A line asks for at most 255 workers, so memory is bounded whatever
-// is sent. (Arrays of eight were tried: of a generic kind it is not known that they fit.)
-fn open_kind<K: Kind>(desk: &mut Desk, head: Head, workers: usize) -> Result<bool, Failure> {
-    let mut row = vec![in desk.heap; Worker::<K>::new(); workers]?;
-    let mut bytes = vec![in desk.heap; 0u8; BLOCK_LEN.saturating_mul(workers)]?;
-    let mut bank = BlockBank::<K>::new(bytes.as_mut_slice());
-    open_and_answer(desk, head, row.as_mut_slice(), &mut bank)
+// Opens an instance of this kind in a row and a box that have room for eight workers, as many as an
+// instance can have. More are refused here, as the engine refuses every row that is too long. (The
+// caller lends the row: of an array of a generic kind it is not known that it fits memory.)
+fn open_kind<K: Kind>(
+    desk: &mut Desk,
+    head: Head,
+    workers: usize,
+    row: &mut [Worker<K>],
+) -> Result<bool, Failure> {
+    let mut bytes = [0u8; MAX_WORKERS * BLOCK_LEN];
+    if workers > row.len().min(MAX_WORKERS) {
+        desk.answer::<K>(Some(head), Err(CallRefusal::Size.into()))?;
+        return Ok(false);
+    }
+    let mut bank = BlockBank::<K>::new(&mut bytes[..workers * BLOCK_LEN]);
+    open_and_answer(desk, head, &mut row[..workers], &mut bank)
 }
 
 // Answers a line where nothing is open, and all after it if it opens an instance.
@@ -129,8 +140,14 @@ fn answer_before_open(desk: &mut Desk) -> Result<bool, Failure> {
     match read_opening(desk.lines.line()) {
         // no plainer otherwise: the kind's name picks the type of the values
         Ok((head, opening)) => match opening.kind {
-            KindName::Batch => open_kind::<Batch>(desk, head, opening.workers),
-            KindName::Choice => open_kind::<Choice>(desk, head, opening.workers),
+            KindName::Batch => {
+                let mut row = [Worker::<Batch>::new(); MAX_WORKERS];
+                open_kind(desk, head, opening.workers, &mut row)
+            }
+            KindName::Choice => {
+                let mut row = [Worker::<Choice>::new(); MAX_WORKERS];
+                open_kind(desk, head, opening.workers, &mut row)
+            }
         },
         Err((head, refusal)) => {
             desk.answer::<Batch>(head, Err(u8::from(refusal)))?;

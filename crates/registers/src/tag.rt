@@ -1,5 +1,5 @@
 // The tag of a record, the byte that stands for it in a block, and its word.
-ghost use Rattle.std.specs.Prelude.{Some};
+ghost use Rattle.std.specs.Prelude.{◌≡◌, Some};
 ghost use Rattle.std.specs.Result.{result_ok};
 ghost use Rattle.registers.specs.Tags.{StandsFor, ReadTag, tag_word};
 
@@ -46,15 +46,23 @@ impl TryFrom<u8> for Tag {
     }
 }
 
-// The word by which users know the tag.
+impl Tag {
+    // The word by which users know the tag.
+    pub fn word(self) -> &'static str
+        ensures { result.now ≡ tag_word self }
+    {
+        match self {
+            Tag::None => "none",
+            Tag::Pro => "pro",
+            Tag::Dec => "dec",
+        }
+    }
+}
+
 impl fmt::Display for Tag {
     ghost output = { λ tag. Some (tag_word tag) };
 
     fn fmt<W: fmt::Write>(&self, f: &mut fmt::Formatter<W>) -> fmt::Result {
-        f.write_str(match self {
-            Tag::None => "none",
-            Tag::Pro => "pro",
-            Tag::Dec => "dec",
-        })
+        f.write_str(self.word())
     }
 }

@@ -21,9 +21,12 @@ pub(crate) fn register_line<K: Kind>(
         Ok(record) => {
             let fields = record.fields();
             let value = value_text(heap, fields.value)?;
+            // the tag by its word, which cannot fail: of a Display no contract says so
             format!(in heap;
                 "{number},{},{},{},{value}\n",
-                fields.tag, fields.round, fields.accepted
+                fields.tag.word(),
+                fields.round,
+                fields.accepted
             )
         }
         Err(refusal) => format!(in heap; "{number},r{},,,\n", u8::from(refusal)),

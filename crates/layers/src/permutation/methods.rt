@@ -3,19 +3,37 @@ ghost use Rattle.std.specs.Prelude.{◌≡◌};
 ghost use Rattle.std.specs.Option.{ok_or};
 ghost use Rattle.registers.specs.Refusals.{numbered, refusal_number};
 ghost use Rattle.registers.specs.declared.refusal.Refusal.TheVariants.{NoRegister};
-ghost use Rattle.layers.specs.Permutations.{each_once, kept_list, Permutes};
+ghost use Rattle.layers.specs.Permutations.{times, each_once, kept_list, Permutes};
 ghost use Rattle.layers.specs.Permuting.{named, permuted_size, permuted_place};
 
 use super::{MAX_PERMUTED, Permutation};
 use registers::bank::index_of;
 use registers::refusal::Refusal;
 
-// Whether the list names each of as many registers as it is long exactly once. Tried with
-// `1..=list.len()`: what `all` answers on such a range stayed open.
+// How often the list names the register. A loop, and so is the next: tried as one chain (`all` over
+// the `count` of a `filter`), making a permutation took up to 2.8 times as long.
+fn count_named(list: &[usize], register: usize) -> usize
+    ensures { result ≡ times register list.now }
+{
+    let mut n = 0;
+    for place in list {
+        if *place == register {
+            n += 1;
+        }
+    }
+    n
+}
+
+// Whether the list names each of as many registers as it is long exactly once.
 fn names_each_once(list: &[usize]) -> bool
     ensures { result ≡ each_once list.now }
 {
-    (1..list.len() + 1).all(|register| list.iter().filter(|place| **place == register).count() == 1)
+    for k in 0..list.len() {
+        if count_named(list, k + 1) != 1 {
+            return false;
+        }
+    }
+    true
 }
 
 impl Permutation {
