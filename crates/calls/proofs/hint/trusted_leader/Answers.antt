@@ -1,9 +1,12 @@
--- The worker behind the lowest ones of the mask leads.
-use Rattle.std.proofs.Common.{arith}
+-- The worker behind the lowest ones of the mask leads. That the ones counted are those of the mask is arithmetic, so that what refuses
+-- another mask is its number and not its form.
+use Rattle.std.proofs.Common.{◌≡◌, ap, ◌∙◌, w8, arith}
+use Rattle.std.specs.Int.{trailing_ones}
 use Rattle.calls.proofs.Leading.{leads}
 use Rattle.calls.proofs.hint.trusted_leader.Goals as goal
 
 pub returns : goal.returns
 returns c =
-    let h = leads c.args.suspects c.args.workers c.trailing_ones.result (omega arith) c.trailing_ones.ensures c.then_some.result c.then_some.ensures in
+    let ones : c.trailing_ones.result ≡ trailing_ones w8 c.args.suspects = c.trailing_ones.ensures ∙ ap (trailing_ones w8) (omega arith) in
+    let h = leads c.args.suspects c.args.workers c.trailing_ones.result (omega arith) ones c.then_some.result c.then_some.ensures in
     record { value = h.0; least = h.1 }
