@@ -11,7 +11,7 @@ use registers::bank::index_of;
 use registers::refusal::Refusal;
 
 // How often the list names the register. A loop, and so is the next: tried as one chain (`all` over
-// the `count` of a `filter`), making a permutation took up to 2.8 times as long.
+// the `count` of a `filter`), making a permutation took up to three times as long.
 fn count_named(list: &[usize], register: usize) -> usize
     ensures { result ≡ times register list.now }
 {

@@ -1,5 +1,5 @@
--- The worker behind the lowest ones of the mask leads. That the ones counted are those of the mask is arithmetic, so that what refuses
--- another mask is its number and not its form.
+-- The worker behind the lowest ones of the mask leads. That the ones counted are those of the mask is left to arithmetic, so that a mask
+-- which is put together in numbers is refused for what it is, and not for how it is written.
 use Rattle.std.proofs.Common.{◌≡◌, ap, ◌∙◌, w8, arith}
 use Rattle.std.specs.Int.{trailing_ones}
 use Rattle.calls.proofs.Leading.{leads}
